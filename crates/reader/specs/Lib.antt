@@ -1,0 +1,13 @@
+pub mod Pieces
+pub mod Numbers
+pub mod Fields
+pub mod Lines
+pub mod Layouts
+pub mod Names
+pub mod Faults
+pub mod Format
+pub mod Reading
+pub mod Loading
+pub mod Listing
+pub mod Values
+pub mod Files

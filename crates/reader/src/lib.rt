@@ -1,0 +1,30 @@
+// Reads the text files of a timing block: a line of column names, value lines, and an end line.
+mod faults;
+mod fields;
+mod layouts;
+mod listing;
+mod lines;
+mod loading;
+mod names;
+mod numbers;
+mod reading;
+mod records;
+mod values;
+
+pub use faults::FileFault;
+pub use faults::FileFaultDebug;
+pub use faults::FileFaultPartialEq;
+pub use faults::FileRefusal;
+pub use faults::FileRefusalDebug;
+pub use faults::FileRefusalDisplay;
+pub use faults::FileRefusalPartialEq;
+pub use records::Kind;
+pub use records::Record;
+pub use records::Side;
+pub use listing::ListFault;
+pub use listing::ListFaultDebug;
+pub use listing::ListFaultPartialEq;
+pub use listing::count;
+pub use listing::list;
+pub use loading::Sink;
+pub use loading::load;
