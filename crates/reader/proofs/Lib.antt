@@ -1,3 +1,4 @@
+pub mod Accepts
 pub mod Bodies
 pub mod Cells
 pub mod Cuts
@@ -6,5 +7,7 @@ pub mod Loads
 pub mod Numerals
 pub mod Orders
 pub mod Places
+pub mod Prefixes
 pub mod Rows
 pub mod Table
+pub mod Writes

@@ -1,6 +1,6 @@
 -- What holds of each entry of the table of formats. Assumes nothing.
 use mathlib.Core.Path.{_≡_, refl, sym, ap, subst, _∙_}
-use mathlib.Core.Bool.{Bool, true, false, not, _&&_}
+use mathlib.Core.Bool.{Bool, true, false, cond, not, _&&_}
 use mathlib.Core.Logic.{_⊎_, inl, inr}
 use mathlib.Core.List.{List, [], _∷_}
 use Prim.Native.Nat.{ℕ, zero, suc, _+_, _≤_, _<_}
@@ -10,16 +10,19 @@ use lib.ListN.{length, getD, take}
 use Rattle.std.specs.declared.option.Option.{Option}
 use Rattle.std.specs.declared.option.Option.the-variants.{Some, None}
 use Rattle.std.specs.Options.{valueOr}
+use Rattle.std.specs.Slices.{Shuffled}
 use Rattle.std.specs.shelf.Lists.{All}
 use Rattle.std.specs.shelf.Text.{sameBytes}
 use Rattle.std.proofs.shelf.Equals.{sameBytes-decides}
+use Rattle.std.proofs.shelf.Sorted.{shuffled-sym, shuffled-trans}
 use Rattle.std.proofs.shelf.Tests.{and-parts, eqb-false, not-true}
 use Rattle.reader.specs.declared.records.Kind.{Kind}
 use Rattle.reader.specs.declared.records.Kind.the-variants.{Arcs, Delays, Bounds, FalseSets}
+use Rattle.reader.specs.Files.{OneOf}
 use Rattle.reader.specs.Layouts.{Entry, layouts, arity}
 use Rattle.reader.specs.Names.{among, isOrder, chosen, place}
 use Rattle.reader.specs.Pieces.{pieces}
-use Rattle.reader.proofs.Orders.{Among, Distinct, chosen-from, order-covers, order-long, place-among}
+use Rattle.reader.proofs.Orders.{Among, Distinct, all-map, chosen-from, order-is, order-from, order-covers, order-long, place-among}
 
 -- no comma and no byte 10
 abbrev pub Plain : List ℕ → Type 0
@@ -61,12 +64,12 @@ all-plain [] h = tt
 all-plain (n ∷ ns) h = let parts = and-parts _ _ h in (plain-from n (parts .0), all-plain ns (parts .1))
 
 -- what holds of 0 and 1 holds below 2, and so below 3
-below-two : (P : ℕ → Type 0) → P 0 → P 1 → (i : ℕ) → i < 2 → P i
+pub below-two : (P : ℕ → Type 0) → P 0 → P 1 → (i : ℕ) → i < 2 → P i
 below-two P a b zero h = a
 below-two P a b (suc zero) h = b
 below-two P a b (suc (suc i)) h = absurd (omega arith)
 
-below-three : (P : ℕ → Type 0) → P 0 → P 1 → P 2 → (i : ℕ) → i < 3 → P i
+pub below-three : (P : ℕ → Type 0) → P 0 → P 1 → P 2 → (i : ℕ) → i < 3 → P i
 below-three P a b c zero h = a
 below-three P a b c (suc zero) h = b
 below-three P a b c (suc (suc zero)) h = c
@@ -138,3 +141,50 @@ places-found k ns e places h found i l =
     let at = found i (omega (arith, most-values k)) (omega (arith, f .0 .named)) in
     let all = whole 3 ns (few-names k ns e h) in
     there .1 ∙ ap (λ p. Some p) (sym (at ∙ ap (λ m. valueOr (place (valueName e i) m) 0) all ∙ ap (λ o. valueOr o 0) (there .1)))
+
+-- ---- one set of columns at most fits a names line
+abbrev columnsOf : Entry → List (List ℕ)
+columnsOf e = pieces 44 (e .columns)
+
+-- no entry names the columns of a later one
+abbrev Apart : List Entry → Type 0
+Apart [] = Unit {0}
+Apart (e ∷ es) = All (λ f. isOrder (columnsOf e) (columnsOf f) ≡ false) es × Apart es
+
+apart-table : (k : Kind) → Apart (layouts k)
+apart-table Arcs = (tt, tt)
+apart-table Delays = (tt, tt)
+apart-table Bounds = (tt, tt)
+apart-table FalseSets = (tt, tt)
+
+pub one-of-all : (P : Entry → Type 0) (e : Entry) (es : List Entry) → All P es → OneOf e es → P e
+one-of-all P e [] a h = absurd h
+one-of-all P e (f ∷ fs) a (inl s) = subst P (sym s) (a .0)
+one-of-all P e (f ∷ fs) a (inr h) = one-of-all P e fs (a .1) h
+
+one-of-self : (es : List Entry) → All (λ e. OneOf e es) es
+one-of-self [] = tt
+one-of-self (e ∷ es) = (inl refl, all-map (λ f. OneOf f es) (λ f. OneOf f (e ∷ es)) (λ f h. inr h) es (one-of-self es))
+
+pub chosen-listed : (k : Kind) (ns : List (List ℕ)) (e : Entry) → chosen (layouts k) ns ≡ Some e → OneOf e (layouts k)
+chosen-listed k ns e h = chosen-from (λ f. OneOf f (layouts k)) (layouts k) ns e (one-of-self (layouts k)) h .0
+
+not-both : (t : Bool) → t ≡ true → t ≡ false → ⊥
+not-both t p q = let z : _≡_ {A = ℕ} 0 1 = cc in omega arith
+
+skipped : (t : Bool) (f : Entry) (o p : Option Entry) → (t ≡ true → ⊥) → o ≡ p → cond t (Some f) o ≡ p
+skipped true f o p never h = absurd (never refl)
+skipped false f o p never h = h
+
+chosen-one : (es : List Entry) (e : Entry) (ns : List (List ℕ)) → Apart es → All (λ f. Distinct (columnsOf f)) es → OneOf e es → Shuffled (columnsOf e) ns → chosen es ns ≡ Some e
+chosen-one [] e ns a d h s = absurd h
+chosen-one (f ∷ fs) e ns a d (inl is) s = rw (order-is (columnsOf f) ns (subst (λ g. Shuffled (columnsOf g) ns) is s)) (ap (λ g. Some g) (sym is))
+chosen-one (f ∷ fs) e ns a d (inr h) s =
+    skipped (isOrder (columnsOf f) ns) f (chosen fs ns) (Some e)
+    (λ t.
+    let to = order-from (columnsOf f) ns (d .0) t .0 in
+    not-both _ (order-is (columnsOf f) (columnsOf e) (shuffled-trans (columnsOf f) ns (columnsOf e) to (shuffled-sym (columnsOf e) ns s))) (one-of-all (λ g. isOrder (columnsOf f) (columnsOf g) ≡ false) e fs (a .0) h))
+    (chosen-one fs e ns (a .1) (d .1) h s)
+
+pub choice : (k : Kind) (e : Entry) (ns : List (List ℕ)) → OneOf e (layouts k) → Shuffled (columnsOf e) ns → chosen (layouts k) ns ≡ Some e
+choice k e ns h s = chosen-one (layouts k) e ns (apart-table k) (all-map (Sound k) (λ f. Distinct (columnsOf f)) (λ f g. g .distinct) (layouts k) (table k)) h s

@@ -1,6 +1,7 @@
 // Reads the text files of a timing block: a line of column names, value lines, and an end line.
 mod faults;
 mod fields;
+mod laws;
 mod layouts;
 mod listing;
 mod lines;
@@ -21,6 +22,7 @@ pub use faults::FileRefusalPartialEq;
 pub use records::Kind;
 pub use records::Record;
 pub use records::Side;
+pub use laws::format_laws;
 pub use listing::ListFault;
 pub use listing::ListFaultDebug;
 pub use listing::ListFaultPartialEq;
