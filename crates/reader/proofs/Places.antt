@@ -66,13 +66,16 @@ told-all f cells xs i l front back =
     length-map : {A B : Type 0} (g : A → B) (ys : List A) → length (map g ys) ≡ length ys
     length-map g [] = refl
     length-map g (y ∷ ys) = ap suc (length-map g ys)
+
     same : (ys : List _) → length (take i cells) ≡ length (map f ys) → i ≤ length ys
     same ys e = omega (arith, e, length-map f ys, length-take i cells)
+
     whole : {A : Type 0} (n : ℕ) (ys : List A) → length ys ≤ n → take n ys ≡ ys
     whole zero [] h = refl
     whole zero (y ∷ ys) h = absurd (omega arith)
     whole (suc n) [] h = refl
     whole (suc n) (y ∷ ys) h = ap (λ t. y ∷ t) (whole n ys (omega arith))
+
     shorter : {A : Type 0} (n : ℕ) (ys : List A) → length ys ≤ n → n ≤ length (take n ys) → n ≡ length ys
     shorter n ys h g = omega (arith, h, g, length-take n ys)
 

@@ -131,18 +131,18 @@ all-under P [] [] d l a = tt
 all-under P [] (f ∷ fs) d l a = absurd (omega arith)
 all-under P (n ∷ ns) [] d l a = absurd (omega arith)
 all-under P (n ∷ ns) (f ∷ fs) d l a = (
-      subst P (under-head n f (lookup n ns fs) (a .0 .0) (sameBytes n n) refl (a .0 .1 .0)) (a .0 .1 .1),
-      all-under P ns fs (d .1) (omega arith)
-          (both-all (λ q. q ≡ n → ⊥) (Under P (n ∷ ns) (f ∷ fs)) (Under P ns fs) (λ q ne u. (u .0, (under-tail q n f ns fs (u .0) ne (sameBytes n q) refl (u .1 .0), u .1 .1))) ns (d .0) (a .1)),
-    )
+  subst P (under-head n f (lookup n ns fs) (a .0 .0) (sameBytes n n) refl (a .0 .1 .0)) (a .0 .1 .1),
+  all-under P ns fs (d .1) (omega arith)
+      (both-all (λ q. q ≡ n → ⊥) (Under P (n ∷ ns) (f ∷ fs)) (Under P ns fs) (λ q ne u. (u .0, (under-tail q n f ns fs (u .0) ne (sameBytes n q) refl (u .1 .0), u .1 .1))) ns (d .0) (a .1)),
+)
 
 module _ (k : Kind) (e : Entry) (ns : List (List ℕ)) (sound : Sound k e) (distinct : Distinct ns)
     (onto : All (λ n. (i : ℕ) × ((i < arity k) × (valueName e i ≡ n))) ns) where
   line-valued : (r : Record) (fs : List (List ℕ)) → Fitting k r → Line e ns r fs → All Valued fs
   line-valued r fs fit line =
       let stands : (n : List ℕ) → (i : ℕ) × ((i < arity k) × (valueName e i ≡ n)) → Under Valued ns fs n = λ n at.
-          let l : at .0 < length (texts r) = omega (arith, at .1 .0, texts-long r, ap arity (fit .kind)) in
-          (getD (texts r) (at .0) [], (ap (λ q. lookup q ns fs) (sym (at .1 .1)) ∙ line .values (at .0) l, all-getD Valued (texts r) (at .0) (texts-valued r (fit .numbers)) l)) in
+      let l : at .0 < length (texts r) = omega (arith, at .1 .0, texts-long r, ap arity (fit .kind)) in
+      (getD (texts r) (at .0) [], (ap (λ q. lookup q ns fs) (sym (at .1 .1)) ∙ line .values (at .0) l, all-getD Valued (texts r) (at .0) (texts-valued r (fit .numbers)) l)) in
       all-under Valued ns fs distinct (line .wide) (all-map _ (Under Valued ns fs) stands ns onto)
 
 -- ---- the record, back

@@ -1,3 +1,4 @@
+pub mod Records
 pub mod Pieces
 pub mod Numbers
 pub mod Fields

@@ -27,7 +27,7 @@ loop-i-again c =
     let there = next-there values i (c .in-Some .name .now) [] _ here in
     let room : i < length (c .loop-i .places) = omega (arith, c .loop-i .inv .2) in (
       below-more _ _ (λ k h. let ne : k ≢ i = omega arith in rw getD-set-other (c .loop-i .inv .0 k h))
-      (λ g. rw getD-set-same (c .unwrap-or .ensures ∙ ap (λ o. valueOr o 0) (c .position .ensures ∙ ap (λ n. place n names) (sym there)))),
+          (λ g. rw getD-set-same (c .unwrap-or .ensures ∙ ap (λ o. valueOr o 0) (c .position .ensures ∙ ap (λ n. place n names) (sym there)))),
       rw add-one (sym (next-dropped values i (c .in-Some .name .now) _ here)),
       simp length-set (c .loop-i .inv .2),
     )
