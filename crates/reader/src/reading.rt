@@ -4,8 +4,10 @@ ghost use Prim.Native.Nat.{ℕ, _+_, _≤_};
 ghost use lib.ListN.{length};
 ghost use Rattle.std.specs.Results.{Cases as ByOk};
 ghost use Rattle.reader.specs.Pieces.{pieces};
-ghost use Rattle.reader.specs.Format.{file, scan, refused, recordOf};
+ghost use Rattle.std.specs.declared.result.Result.the-variants.{Err};
+ghost use Rattle.reader.specs.Format.{file, scan, refused, recordOf, unended};
 ghost use Rattle.reader.specs.Layouts.{entry};
+ghost use Rattle.reader.specs.Lines.{Standing, unread};
 ghost use Rattle.reader.specs.Reading.{left, Ready, Steps};
 use crate::faults::FileFault;
 use crate::faults::FileRefusal;
@@ -101,14 +103,22 @@ impl<'a> Reader<'a> {
         record_in(self.kind, &row.cells, &self.places)
     }
 
+    // What becomes of a file that has no byte 10 left, and no end line yet.
+    fn cut_off(&self) -> Result<Option<Record>, FileRefusal>
+        requires { ⌜ Standing (now self .cursor) ⌝ }
+        ensures { λ r. ⌜ r ≡ Err (record { fault = unended (unread (now (self .entry) .cursor)); line = now (self .entry) .cursor .line + 1 }) ⌝ }
+    {
+        let fault = unended_fault(self.cursor.rest());
+        Err(refuse(fault, self.cursor.line() + 1))
+    }
+
     // The next record, or nothing after the end line.
     pub fn next(&mut self) -> Result<Option<Record>, FileRefusal>
         requires { ⌜ Ready (now self) ⌝ }
         ensures { λ r. ⌜ Steps (now (self .entry)) r (now (self .exit)) ⌝ }
     {
         let Some(line) = self.cursor.next_line() else {
-            let fault = unended_fault(self.cursor.rest());
-            return Err(refuse(fault, self.cursor.line() + 1));
+            return self.cut_off();
         };
         let number = self.cursor.line();
         if !is_end(line) {

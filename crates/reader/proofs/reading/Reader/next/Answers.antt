@@ -20,7 +20,7 @@ returns-in-None c =
     let here = c .in-Some .ensures tt .cases in
     bodies.reads-bad (c .args .self .now) (c .next-line .last .self) (c .in-Some .line .now) (c .line-number .result) (here .0 .0) (c .line-number .ensures ∙ here .1)
     (c .if-not-is-end .ensures tt) (sym (c .record .ensures) ∙ c .in-None .is)
-    ∙ ap refused (sym (c .refuse-in-None .ensures))
+    ∙ ap refused (sym (c .refuse .ensures))
 
 pub returns-then-not-counts : need.returns-then-not-counts
 returns-then-not-counts c =
@@ -33,11 +33,11 @@ pub returns-then-not-is-empty : need.returns-then-not-is-empty
 returns-then-not-is-empty c =
     let here = c .in-Some .ensures tt .cases in
     bodies.reads-followed (c .args .self .now) (c .next-line .last .self) (c .in-Some .line .now) (c .line-number .result) (here .0 .0) (c .line-number .ensures ∙ here .1)
-    (c .if-not-is-end .ensures tt) (c .if-not-counts .ensures tt) (c .if-not-is-empty .ensures tt ∙ ap (λ l. eqb (length l) 0) (c .rest-2 .ensures))
+    (c .if-not-is-end .ensures tt) (c .if-not-counts .ensures tt) (c .if-not-is-empty .ensures tt ∙ ap (λ l. eqb (length l) 0) (c .rest .ensures))
     ∙ ap refused (sym (c .refuse-then-not-is-empty .ensures))
 
 pub returns : need.returns
 returns c =
     let here = c .in-Some .ensures tt .cases in
     bodies.reads-end (c .args .self .now) (c .next-line .last .self) (c .in-Some .line .now) (c .line-number .result) (here .0 .0) (c .line-number .ensures ∙ here .1)
-    (c .if-not-is-end .ensures tt) (c .if-not-counts .ensures tt) (c .if-not-is-empty .ensures tt ∙ ap (λ l. eqb (length l) 0) (c .rest-2 .ensures))
+    (c .if-not-is-end .ensures tt) (c .if-not-counts .ensures tt) (c .if-not-is-empty .ensures tt ∙ ap (λ l. eqb (length l) 0) (c .rest .ensures))
