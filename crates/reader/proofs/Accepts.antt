@@ -2,7 +2,7 @@
 use mathlib.Core.Path.{_≡_, refl, sym, ap, subst, _∙_}
 use mathlib.Core.Bool.{Bool, true, false, cond}
 use mathlib.Core.List.{List, [], _∷_, _++_, append-assoc}
-use Prim.Native.Nat.{ℕ, zero, suc, _+_, _≤_, _<_}
+use Prim.Native.Nat.{ℕ, _+_, _≤_, _<_}
 use native.Mathlib.Omega.{arith}
 use lib.Chars.{codes}
 use lib.Dec.{eqb, ltb}
@@ -32,7 +32,7 @@ use Rattle.reader.specs.Pieces.{pieces, longer}
 use Rattle.reader.proofs.Bodies.{Some-piece, some-piece}
 use Rattle.reader.proofs.Digits.{number-back}
 use Rattle.reader.proofs.Orders.{order-from}
-use Rattle.reader.proofs.Prefixes.{some-none, end-complete, value-complete, headed-complete, sized}
+use Rattle.reader.proofs.Prefixes.{some-none, end-complete, value-complete, sized}
 use Rattle.reader.proofs.Rows.{as-long}
 use Rattle.reader.proofs.Table.{below-two, below-three, fitting, chosen-listed}
 

@@ -1,20 +1,19 @@
 -- A file's lines, one by one. Assumes nothing.
 use mathlib.Core.Path.{_≡_, refl, sym, ap, subst, _∙_}
-use mathlib.Core.Bool.{Bool, true, false, cond}
-use mathlib.Core.List.{List, [], _∷_, _++_}
-use Prim.Native.Nat.{ℕ, zero, suc, _+_, _-_, _≤_, _<_}
+use mathlib.Core.Bool.{true, false, cond}
+use mathlib.Core.List.{List, [], _∷_}
+use Prim.Native.Nat.{ℕ, suc, _+_, _-_}
 use native.Mathlib.Omega.{arith}
 use lib.Dec.{eqb}
-use lib.ListN.{length, getD}
-use Rattle.std.specs.declared.option.Option.{Option}
+use lib.ListN.{length}
 use Rattle.std.specs.declared.option.Option.the-variants.{Some, None}
 use Rattle.std.proofs.shelf.Tests.{ne-eqb}
 use Rattle.reader.specs.declared.records.Kind.{Kind}
 use Rattle.reader.specs.declared.records.Record.{Record}
 use Rattle.reader.specs.declared.lines.Cursor.{Cursor}
 use Rattle.reader.specs.declared.reading.Reader.{Reader}
-use Rattle.reader.specs.declared.faults.FileFault.the-variants.{NamesWrong, ValueWrong, EndWrong, EndFollowed}
-use Rattle.reader.specs.Format.{Scan, body, headed, file, scan, recordOf, valueLine, endLine, isEnd, closes, none, stop, after, complete}
+use Rattle.reader.specs.declared.faults.FileFault.the-variants.{ValueWrong, EndWrong, EndFollowed}
+use Rattle.reader.specs.Format.{body, headed, file, scan, recordOf, valueLine, endLine, isEnd, closes, none, stop, after, complete}
 use Rattle.reader.specs.Layouts.{Entry, entry, layouts}
 use Rattle.reader.specs.Lines.{unread}
 use Rattle.reader.specs.Names.{chosen}

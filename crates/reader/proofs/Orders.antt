@@ -1,12 +1,11 @@
 -- The columns' names, each once, in any order. Assumes nothing.
-use mathlib.Core.Path.{_≡_, refl, sym, ap, subst, _∙_}
-use mathlib.Core.Bool.{Bool, true, false, cond, _&&_, _||_}
+use mathlib.Core.Path.{_≡_, refl, sym, ap, subst}
+use mathlib.Core.Bool.{Bool, true, false, cond, _||_}
 use mathlib.Core.Logic.{_⊎_, inl, inr}
 use mathlib.Core.List.{List, [], _∷_, _++_}
-use Prim.Native.Nat.{ℕ, zero, suc, _+_, _≤_, _<_}
+use Prim.Native.Nat.{ℕ, suc, _+_}
 use native.Mathlib.Omega.{arith}
 use lib.ListN.{length, length-append}
-use Rattle.std.specs.declared.option.Option.{Option}
 use Rattle.std.specs.declared.option.Option.the-variants.{Some, None}
 use Rattle.std.specs.Options.{mapped}
 use Rattle.std.specs.Slices.{Shuffled}
@@ -16,8 +15,9 @@ use Rattle.std.proofs.shelf.Equals.{sameBytes-decides}
 use Rattle.std.proofs.shelf.Sorted.{shuffled-refl, shuffled-sym, shuffled-cons, shuffled-swap, shuffled-trans, length-shuffled, all-shuffled}
 use Rattle.std.proofs.shelf.Tests.{and-parts, and-from}
 use Rattle.reader.specs.Layouts.{Entry}
-use Rattle.reader.specs.Names.{among, sameLength, covers, isOrder, chosen, place}
+use Rattle.reader.specs.Names.{among, covers, isOrder, chosen, place}
 use Rattle.reader.specs.Pieces.{pieces}
+use Rattle.reader.proofs.Digits.{or-right}
 use Rattle.reader.proofs.Rows.{same-length, as-long}
 
 abbrev pub Among : List ℕ → List (List ℕ) → Type 0
@@ -53,10 +53,6 @@ among-way q n ns false e h later = inr (later h)
 among-true : (q : List ℕ) (ns : List (List ℕ)) → among q ns ≡ true → Among q ns
 among-true q [] h = let z : _≡_ {A = ℕ} 0 1 = cc in omega arith
 among-true q (n ∷ ns) h = among-way q n ns (sameBytes n q) refl h (among-true q ns)
-
-or-right : (x y : Bool) → y ≡ true → (x || y) ≡ true
-or-right true y h = refl
-or-right false y h = h
 
 true-among : (q : List ℕ) (ns : List (List ℕ)) → Among q ns → among q ns ≡ true
 true-among q [] h = absurd h

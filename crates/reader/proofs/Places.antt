@@ -1,12 +1,12 @@
 -- A list walked field by field, and what was found at each place. Assumes nothing.
-use mathlib.Core.Path.{_≡_, refl, sym, ap, subst, _∙_}
-use mathlib.Core.Bool.{Bool, true, false, cond}
+use mathlib.Core.Path.{_≡_, refl, sym, ap, _∙_}
+use mathlib.Core.Bool.{true, false}
 use mathlib.Core.List.{List, [], _∷_, _++_, map}
 use Prim.Native.Nat.{ℕ, zero, suc, _+_, _-_, _≤_, _<_}
-use native.Mathlib.Nat.{add-zero, add-suc}
+use native.Mathlib.Nat.{add-zero}
 use native.Mathlib.Numerals.{add-one}
 use native.Mathlib.Omega.{arith}
-use lib.ListN.{length, getD, take, drop, set, length-take, length-set}
+use lib.ListN.{length, getD, take, drop, set, length-take}
 use Rattle.std.proofs.shelf.Lists.{take-more-set}
 use Rattle.std.specs.declared.option.Option.{Option}
 use Rattle.std.specs.declared.option.Option.the-variants.{Some, None}
@@ -40,6 +40,13 @@ module _ {X : Type 0} where
   none-there (y ∷ ys) zero h = absurd (let z : _≡_ {A = ℕ} 0 1 = cc in omega arith)
   none-there (y ∷ ys) (suc i) h = omega (arith, none-there ys i h)
 
+-- a list that is no longer than what is taken
+pub whole : {X : Type 0} (n : ℕ) (ys : List X) → length ys ≤ n → take n ys ≡ ys
+whole zero [] h = refl
+whole zero (y ∷ ys) h = absurd (omega arith)
+whole (suc n) [] h = refl
+whole (suc n) (y ∷ ys) h = ap (λ t. y ∷ t) (whole n ys (omega arith))
+
 map-append : {X Y : Type 0} (f : X → Y) (xs ys : List X) → map f (xs ++ ys) ≡ map f xs ++ map f ys
 map-append f [] ys = refl
 map-append f (x ∷ xs) ys = ap (λ l. f x ∷ l) (map-append f xs ys)
@@ -69,12 +76,6 @@ told-all f cells xs i l front back =
 
     same : (ys : List _) → length (take i cells) ≡ length (map f ys) → i ≤ length ys
     same ys e = omega (arith, e, length-map f ys, length-take i cells)
-
-    whole : {A : Type 0} (n : ℕ) (ys : List A) → length ys ≤ n → take n ys ≡ ys
-    whole zero [] h = refl
-    whole zero (y ∷ ys) h = absurd (omega arith)
-    whole (suc n) [] h = refl
-    whole (suc n) (y ∷ ys) h = ap (λ t. y ∷ t) (whole n ys (omega arith))
 
     shorter : {A : Type 0} (n : ℕ) (ys : List A) → length ys ≤ n → n ≤ length (take n ys) → n ≡ length ys
     shorter n ys h g = omega (arith, h, g, length-take n ys)

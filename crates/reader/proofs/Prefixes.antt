@@ -2,7 +2,7 @@
 use mathlib.Core.Path.{_≡_, refl, sym, ap, subst, _∙_}
 use mathlib.Core.Bool.{Bool, true, false, cond}
 use mathlib.Core.List.{List, [], _∷_, _++_}
-use Prim.Native.Nat.{ℕ, zero, suc, _+_, _-_, _≤_, _<_}
+use Prim.Native.Nat.{ℕ, suc, _+_, _-_}
 use native.Mathlib.Omega.{arith}
 use lib.Dec.{eqb, ltb}
 use lib.ListN.{length}
@@ -12,7 +12,7 @@ use Rattle.reader.specs.declared.records.Kind.{Kind}
 use Rattle.reader.specs.declared.records.Record.{Record}
 use Rattle.reader.specs.declared.faults.FileFault.{FileFault}
 use Rattle.reader.specs.declared.faults.FileFault.the-variants.{NoBytes, TooLong, EndWrong, EndFollowed}
-use Rattle.reader.specs.Format.{Scan, body, headed, file, scan, recordOf, valueLine, endLine, isEnd, closes, none, isNil, stop, after, complete}
+use Rattle.reader.specs.Format.{Scan, body, headed, file, scan, recordOf, valueLine, endLine, isEnd, closes, none, stop, after, complete}
 use Rattle.reader.specs.Layouts.{Entry, layouts}
 use Rattle.reader.specs.Names.{chosen}
 use Rattle.reader.specs.Pieces.{pieces, longer}

@@ -1,8 +1,8 @@
 -- The record that a row of cells makes is the one that the line's fields make. Assumes nothing.
 use mathlib.Core.Path.{_≡_, refl, sym, ap, subst, _∙_}
 use mathlib.Core.Bool.{Bool, true, false, cond}
-use mathlib.Core.List.{List, [], _∷_, _++_, map}
-use Prim.Native.Nat.{ℕ, zero, suc, _+_, _-_, _≤_, _<_}
+use mathlib.Core.List.{List, [], _∷_, map}
+use Prim.Native.Nat.{ℕ, zero, suc, _-_, _<_}
 use native.Mathlib.Omega.{arith}
 use lib.Dec.{eqb, lit<}
 use lib.IntN.{ℤ}
@@ -15,13 +15,11 @@ use Rattle.std.proofs.shelf.Lists.{getD-take}
 use Rattle.std.proofs.shelf.Tests.{eqb-true}
 use Rattle.reader.specs.declared.records.Kind.{Kind}
 use Rattle.reader.specs.declared.records.Kind.the-variants.{Arcs, Delays, Bounds, FalseSets}
-use Rattle.reader.specs.declared.records.Side.{Side}
 use Rattle.reader.specs.declared.records.Side.the-variants.{Start, End}
-use Rattle.reader.specs.declared.records.Record.{Record}
 use Rattle.reader.specs.declared.records.Record.the-variants.{Arc, Delay, Bound, Pair}
 use Rattle.reader.specs.declared.fields.Cell.{Cell}
 use Rattle.reader.specs.declared.fields.Cell.the-variants.{Other}
-use Rattle.reader.specs.Fields.{cellOf, numeral, single, cellNumber, cellSide, letterSide}
+use Rattle.reader.specs.Fields.{cellOf, numeral, cellNumber, cellSide, letterSide}
 use Rattle.reader.specs.Format.{both, three, numberIn, sideIn, recordFrom, recordOf, textOf}
 use Rattle.reader.specs.Layouts.{Entry, arity}
 use Rattle.reader.specs.Names.{sameLength, lookup, place}

@@ -1,14 +1,14 @@
 -- What holds of each entry of the table of formats. Assumes nothing.
 use mathlib.Core.Path.{_≡_, refl, sym, ap, subst, _∙_}
 use mathlib.Core.Bool.{Bool, true, false, cond, not, _&&_}
-use mathlib.Core.Logic.{_⊎_, inl, inr}
+use mathlib.Core.Logic.{inl, inr}
 use mathlib.Core.List.{List, [], _∷_}
-use Prim.Native.Nat.{ℕ, zero, suc, _+_, _≤_, _<_}
+use Prim.Native.Nat.{ℕ, zero, suc, _≤_, _<_}
 use native.Mathlib.Omega.{arith}
 use lib.Dec.{eqb, lit<, lit≤}
 use lib.ListN.{length, getD, take}
 use Rattle.std.specs.declared.option.Option.{Option}
-use Rattle.std.specs.declared.option.Option.the-variants.{Some, None}
+use Rattle.std.specs.declared.option.Option.the-variants.{Some}
 use Rattle.std.specs.Options.{valueOr}
 use Rattle.std.specs.Slices.{Shuffled}
 use Rattle.std.specs.shelf.Lists.{All}
@@ -20,8 +20,9 @@ use Rattle.reader.specs.declared.records.Kind.{Kind}
 use Rattle.reader.specs.declared.records.Kind.the-variants.{Arcs, Delays, Bounds, FalseSets}
 use Rattle.reader.specs.Files.{OneOf}
 use Rattle.reader.specs.Layouts.{Entry, layouts, arity}
-use Rattle.reader.specs.Names.{among, isOrder, chosen, place}
+use Rattle.reader.specs.Names.{isOrder, chosen, place}
 use Rattle.reader.specs.Pieces.{pieces}
+use Rattle.reader.proofs.Places.{whole}
 use Rattle.reader.proofs.Orders.{Among, Distinct, all-map, chosen-from, order-is, order-from, order-covers, order-long, place-among}
 
 -- no comma and no byte 10
@@ -124,12 +125,6 @@ most-values Arcs = lit≤ tt
 most-values Delays = lit≤ tt
 most-values Bounds = lit≤ tt
 most-values FalseSets = lit≤ tt
-
-whole : (n : ℕ) (ys : List (List ℕ)) → length ys ≤ n → take n ys ≡ ys
-whole zero [] h = refl
-whole zero (y ∷ ys) h = absurd (omega arith)
-whole (suc n) [] h = refl
-whole (suc n) (y ∷ ys) h = ap (λ t. y ∷ t) (whole n ys (omega arith))
 
 -- each value has its place
 pub places-found : (k : Kind) (ns : List (List ℕ)) (e : Entry) (places : List ℕ) → chosen (layouts k) ns ≡ Some e

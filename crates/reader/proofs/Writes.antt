@@ -1,11 +1,11 @@
 -- A file as it is written is read as it was meant. Assumes nothing.
 use mathlib.Core.Path.{_≡_, refl, sym, ap, subst, _∙_}
-use mathlib.Core.Bool.{Bool, true, false, cond, _&&_}
+use mathlib.Core.Bool.{Bool, true, false, cond}
 use mathlib.Core.List.{List, [], _∷_, _++_, append-assoc, append-nil}
 use Prim.Native.Nat.{ℕ, zero, suc, _+_, _-_, _≤_, _<_}
 use native.Mathlib.Omega.{arith}
 use lib.Chars.{codes}
-use lib.Dec.{eqb, ltb, lit<}
+use lib.Dec.{lit<}
 use lib.IntN.{ℤ, pos, negsuc, natAbs}
 use lib.ListN.{length, length-append, getD, take, drop, length-drop, take-append-drop}
 use Rattle.std.specs.declared.option.Option.{Option}
@@ -26,14 +26,13 @@ use Rattle.reader.specs.declared.records.Record.the-variants.{Arc, Delay, Boun
 use Rattle.reader.specs.declared.faults.FileFault.the-variants.{NoBytes, TooLong}
 use Rattle.reader.specs.Fields.{letterSide}
 use Rattle.reader.specs.Files.{joinBy, lineOf, letterOf, texts, kindOf, numbersOf, Fitting, Line, Lines, Good}
-use Rattle.reader.specs.Format.{Scan, both, three, numberIn, sideIn, recordFrom, recordOf, textOf, isEnd, firstIsEnd, closes, countIs, body, headed, file, scan, refused}
+use Rattle.reader.specs.Format.{both, three, numberIn, sideIn, recordFrom, recordOf, textOf, firstIsEnd, closes, countIs, body, headed, file, scan, refused}
 use Rattle.reader.specs.Layouts.{Entry, layouts, arity}
-use Rattle.reader.specs.Names.{chosen, lookup, sameLength}
-use Rattle.reader.specs.Numbers.{number}
+use Rattle.reader.specs.Names.{chosen, lookup}
 use Rattle.reader.specs.Pieces.{pieces, longer}
 use Rattle.reader.proofs.Bodies.{some-piece, on-names, on-value, on-end}
 use Rattle.reader.proofs.Digits.{all-digits, digit-within, number-signed}
-use Rattle.reader.proofs.Orders.{Among, Distinct, all-map, both-all, order-is, order-from}
+use Rattle.reader.proofs.Orders.{Distinct, all-map, both-all, order-is, order-from}
 use Rattle.reader.proofs.Prefixes.{followed}
 use Rattle.reader.proofs.Rows.{same-length}
 use Rattle.reader.proofs.Table.{Plain, Sound, valueName, table, one-of-all, choice}

@@ -18,7 +18,7 @@ use Rattle.reader.specs.declared.records.Side.the-variants.{Start, End}
 use Rattle.reader.specs.declared.records.Record.{Record}
 use Rattle.reader.specs.declared.records.Record.the-variants.{Arc, Delay, Bound, Pair}
 use Rattle.reader.specs.declared.faults.FileFault.the-variants.{NoBytes, TooLong}
-use Rattle.reader.specs.Format.{Scan, scan, refused, textOf}
+use Rattle.reader.specs.Format.{scan, refused, textOf}
 use Rattle.reader.specs.Layouts.{Entry, layouts}
 use Rattle.reader.specs.Pieces.{pieces}
 

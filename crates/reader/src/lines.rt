@@ -1,7 +1,7 @@
 // Walks over a file's lines, as parts of the caller's bytes.
 ghost use mathlib.Core.Path.{_≡_};
 ghost use Prim.Native.Nat.{ℕ, _+_, _^_, _≤_, _<_};
-ghost use lib.ListN.{length, getD, drop};
+ghost use lib.ListN.{length, getD};
 ghost use Rattle.std.specs.Options.{Cases as BySome};
 ghost use denote.Ref.{now};
 ghost use Rattle.reader.specs.Lines.{Standing, unread};

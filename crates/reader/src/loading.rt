@@ -1,5 +1,4 @@
 // Hands a file's records to whoever takes them.
-ghost use mathlib.Core.Path.{_≡_};
 ghost use Prim.Native.Nat.{ℕ, _+_};
 ghost use Rattle.std.specs.declared.result.Result.{Result};
 ghost use Rattle.reader.specs.declared.records.Record.{Record};

@@ -1,6 +1,6 @@
 // Opens a file, and reads its records one by one.
 ghost use mathlib.Core.Path.{_≡_};
-ghost use Prim.Native.Nat.{ℕ, _+_, _≤_};
+ghost use Prim.Native.Nat.{_+_, _≤_};
 ghost use lib.ListN.{length};
 ghost use Rattle.std.specs.Results.{Cases as ByOk};
 ghost use Rattle.reader.specs.Pieces.{pieces};

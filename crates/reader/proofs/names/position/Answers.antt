@@ -1,4 +1,4 @@
-use mathlib.Core.Path.{_≡_, sym, ap, _∙_}
+use mathlib.Core.Path.{_∙_}
 use native.Mathlib.Omega.{arith}
 use Rattle.reader.specs.Pieces.{fieldsIn}
 use Rattle.reader.proofs.Places.{place-here, place-further, place-none}

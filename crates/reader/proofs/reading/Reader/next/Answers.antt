@@ -1,8 +1,7 @@
-use mathlib.Core.Path.{_≡_, sym, ap, _∙_}
+use mathlib.Core.Path.{sym, ap, _∙_}
 use lib.Dec.{eqb}
 use lib.ListN.{length}
 use Rattle.reader.specs.Format.{refused}
-use Rattle.reader.specs.Lines.{unread}
 use Rattle.reader.proofs.Bodies as bodies
 use Rattle.reader.proofs.reading.Reader.next.Needs as need
 

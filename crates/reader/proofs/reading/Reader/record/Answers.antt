@@ -1,6 +1,6 @@
-use mathlib.Core.Path.{_≡_, sym, ap, _∙_}
+use mathlib.Core.Path.{sym, ap, _∙_}
 use native.Mathlib.Omega.{arith}
-use lib.ListN.{length, take}
+use lib.ListN.{take}
 use Rattle.reader.specs.Layouts.{entry}
 use Rattle.reader.specs.Pieces.{pieces}
 use Rattle.reader.proofs.Rows.{no-record, record-row}
