@@ -1,5 +1,7 @@
-// The command `demo`: built-in files, good ones and damaged ones, through the reader.
+// The command `demo`: built-in files, good ones and damaged ones, through the reader; then measures and sources.
 use crate::check::judge;
+use crate::demo_measures::show_measures;
+use crate::demo_sources::show_sources;
 use reader::Kind;
 use reader::LIMIT;
 use reader::count;
@@ -114,5 +116,7 @@ pub fn demo(rt: &LibcRuntime) -> io::Result<bool> {
     if well {
         rt.println("Each good file was taken whole, and each damaged one was refused.")?;
     }
+    show_measures(rt)?;
+    show_sources(rt)?;
     Ok(well)
 }

@@ -7,7 +7,7 @@ const TEXT: &str = "ripotyngue: timing of a logic block with known false subgrap
                                   (arcs, delays, bounds or false), or the number and the line
                                   of its refusal
   ripotyngue demo                 read built-in files, good ones and damaged ones, and say what
-                                  came of each
+                                  came of each; then show measures and delay sources at work
   ripotyngue help                 this text
 
 The status is 0 when all went well, and 1 when a file was refused or could not be read, or a word

@@ -1,6 +1,8 @@
 // The program. What it does with files is in the library; here are the command line and the words.
 mod check;
 mod demo;
+mod demo_measures;
+mod demo_sources;
 mod help;
 mod input;
 

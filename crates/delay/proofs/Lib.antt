@@ -1,0 +1,4 @@
+pub mod Products
+pub mod Shown
+pub mod Memos
+pub mod Standing

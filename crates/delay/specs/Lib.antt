@@ -1,0 +1,9 @@
+pub mod Causes
+pub mod Entries
+pub mod Tables
+pub mod Annotated
+pub mod LoadFormula
+pub mod Margin
+pub mod Memo
+pub mod DelayFiles
+pub mod Sounds

@@ -1,0 +1,6 @@
+// A tick count that a memo keeps, with its arc.
+#[derive(Clone, Copy)]
+pub struct Kept {
+    pub arc: u16,
+    pub ticks: i32,
+}
