@@ -28,6 +28,7 @@ pub use listing::count;
 pub use listing::list;
 pub use loading::Sink;
 pub use loading::load;
+pub use loading::run;
 pub use records::Kind;
 pub use records::Record;
 pub use records::Side;

@@ -42,13 +42,20 @@ fn drain<S: Sink>(reader: &mut Reader, sink: &mut S) -> Result<(), FileRefusal>
     Ok(())
 }
 
+// Hands a file's records to the sink, up to the first refusal. A refused file may leave the sink part of the way.
+pub fn run<S: Sink>(kind: Kind, bytes: &[u8], sink: &mut S) -> Result<(), FileRefusal>
+    ensures { λ r. ⌜ Answers (loaded step (scan kind (now (bytes .entry))) (holds (now (sink .entry)))) r (holds (now (sink .exit))) ⌝ }
+{
+    let mut reader = Reader::open(kind, bytes)?;
+    drain(&mut reader, sink)
+}
+
 // Loads a whole file, or leaves the sink as it was.
 pub fn load<S: Sink + Copy>(kind: Kind, bytes: &[u8], sink: &mut S) -> Result<(), FileRefusal>
     ensures { λ r. ⌜ Leaves (loaded step (scan kind (now (bytes .entry))) (holds (now (sink .entry)))) (holds (now (sink .entry))) r (holds (now (sink .exit))) ⌝ }
 {
-    let mut reader = Reader::open(kind, bytes)?;
     let mut copy = *sink;
-    drain(&mut reader, &mut copy)?;
+    run(kind, bytes, &mut copy)?;
     *sink = copy;
     Ok(())
 }
