@@ -1,0 +1,11 @@
+pub mod Slots
+pub mod Accepted
+pub mod Segments
+pub mod Listed
+pub mod Masks
+pub mod Swept
+pub mod Marks
+pub mod Back
+pub mod Keeping
+pub mod Leading
+pub mod Replayed

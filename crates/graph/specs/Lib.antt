@@ -1,0 +1,15 @@
+pub mod Order
+pub mod Ranges
+pub mod Refusals
+pub mod Slots
+pub mod Kept
+pub mod Sorting
+pub mod Block
+pub mod Index
+pub mod Sets
+pub mod Paths
+pub mod Pair
+pub mod Sweeps
+pub mod Trials
+pub mod Computed
+pub mod Lines

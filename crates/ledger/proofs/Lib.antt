@@ -1,0 +1,5 @@
+pub mod Running
+pub mod Settling
+pub mod Undoing
+pub mod Holding
+pub mod Putting
