@@ -14,11 +14,11 @@ use crate::records::Side;
 const COMMA: u8 = 44;
 
 // A value line has at most so many fields.
-pub const MOST: usize = 3;
+pub(crate) const MOST: usize = 3;
 
 // A field, as a part of the file.
 #[derive(Clone, Copy)]
-pub enum Field<'a> {
+pub(crate) enum Field<'a> {
     Name(&'a [u8]),
     Number { text: &'a [u8], value: i32 },
     Letter(char),
@@ -39,18 +39,18 @@ fn tell<'a>(part: &'a [u8]) -> Field<'a>
 
 // The fields of a line that are still to come.
 #[derive(Drop)]
-pub struct Fields<'a> {
+pub(crate) struct Fields<'a> {
     rest: Option<&'a [u8]>,
 }
 
 impl<'a> Fields<'a> {
-    pub fn of(line: &'a [u8]) -> Fields<'a>
+    pub(crate) fn of(line: &'a [u8]) -> Fields<'a>
         ensures { λ r. ⌜ fieldsIn (r .rest) ≡ pieces 44 (now (line .entry)) ⌝ }
     {
         Fields { rest: Some(line) }
     }
 
-    pub fn next_field(&mut self) -> Option<&'a [u8]>
+    pub(crate) fn next_field(&mut self) -> Option<&'a [u8]>
         ensures { λ r. ⌜ BySome r
             (fieldsIn (now (self .entry) .rest) ≡ [])
             (λ f. fieldsIn (now (self .entry) .rest) ≡ now f ∷ fieldsIn (now (self .exit) .rest)) ⌝ }
@@ -82,14 +82,14 @@ impl<'a> Fields<'a> {
 
 // What a field says, without its bytes.
 #[derive(Clone, Copy)]
-pub enum Cell {
+pub(crate) enum Cell {
     Number(i32),
     Letter(char),
     Other,
 }
 
 impl Cell {
-    pub fn number(self) -> Option<i32>
+    pub(crate) fn number(self) -> Option<i32>
         ensures { λ r. ⌜ r ≡ cellNumber self ⌝ }
     {
         match self {
@@ -99,7 +99,7 @@ impl Cell {
     }
 
     // The side that a letter names.
-    pub fn side(self) -> Option<Side>
+    pub(crate) fn side(self) -> Option<Side>
         ensures { λ r. ⌜ r ≡ cellSide self ⌝ }
     {
         match self {
@@ -131,13 +131,13 @@ fn cell_of(field: Field) -> Cell
 
 // The cells of a line: how many there are, and each of them.
 #[derive(Clone, Copy)]
-pub struct Row {
-    pub width: usize,
-    pub cells: [Cell; 3],
+pub(crate) struct Row {
+    pub(crate) width: usize,
+    pub(crate) cells: [Cell; 3],
 }
 
 // The cells of a line, unless there are too many.
-pub fn read_row(line: &[u8]) -> Option<Row>
+pub(crate) fn read_row(line: &[u8]) -> Option<Row>
     ensures { λ r. ⌜ BySome r
         (3 < length (pieces 44 (now (line .entry))))
         (λ row. (row .width ≡ length (pieces 44 (now (line .entry)))) × (row .width ≤ 3) × (take (row .width) (row .cells) ≡ map cellOf (pieces 44 (now (line .entry))))) ⌝ }
@@ -156,7 +156,7 @@ pub fn read_row(line: &[u8]) -> Option<Row>
     }
 }
 
-pub fn same(a: &[u8], b: &[u8]) -> bool
+pub(crate) fn same(a: &[u8], b: &[u8]) -> bool
     ensures { λ r. ⌜ r ≡ sameBytes (now (a .entry)) (now (b .entry)) ⌝ }
 {
     a == b

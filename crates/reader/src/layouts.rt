@@ -8,9 +8,9 @@ use crate::records::Kind;
 // A set of columns: the names that the names line has, each once, in any order; and, for each value of the record in
 // the record's order, the column that it is read from. Names are joined by commas.
 #[derive(Clone, Copy)]
-pub struct Layout {
-    pub columns: &'static [u8],
-    pub values: &'static [u8],
+pub(crate) struct Layout {
+    pub(crate) columns: &'static [u8],
+    pub(crate) values: &'static [u8],
 }
 
 fn listed(columns: &'static [u8], values: &'static [u8]) -> Option<Layout>
@@ -20,7 +20,7 @@ fn listed(columns: &'static [u8], values: &'static [u8]) -> Option<Layout>
 }
 
 // The table: the i-th set of columns that a file of the kind may have.
-pub fn layout_at(kind: Kind, i: usize) -> Option<Layout>
+pub(crate) fn layout_at(kind: Kind, i: usize) -> Option<Layout>
     ensures { λ r. ⌜ mapped entry r ≡ entryAt (layouts kind) i ⌝ }
 {
     match (kind, i) {

@@ -7,13 +7,13 @@ ghost use denote.Ref.{now};
 ghost use Rattle.reader.specs.Lines.{Standing, unread};
 ghost use Rattle.reader.specs.Pieces.{Cut, Whole};
 
-pub const NEWLINE: u8 = 10;
+pub(crate) const NEWLINE: u8 = 10;
 
 // A file has at most so many bytes.
 pub const LIMIT: usize = 60000;
 
 // How many bytes stand before the first `mark`, or all of them where there is none.
-pub fn before(s: &[u8], mark: u8) -> usize
+pub(crate) fn before(s: &[u8], mark: u8) -> usize
     ensures within { λ r. ⌜ r ≤ length (now (s .entry)) ⌝ }
     ensures bound { λ _. ⌜ length (now (s .entry)) < 2 ^ 64 ⌝ }
     ensures before { λ r. ⌜ ((k : ℕ) → k < r → getD (now (s .entry)) k 0 ≡ mark → ⊥) ⌝ }
@@ -29,14 +29,14 @@ pub fn before(s: &[u8], mark: u8) -> usize
 
 // A file's bytes, the place where its next line begins, and how many lines were handed out.
 #[derive(Drop)]
-pub struct Cursor<'a> {
+pub(crate) struct Cursor<'a> {
     bytes: &'a [u8],
     place: usize,
     line: usize,
 }
 
 impl<'a> Cursor<'a> {
-    pub fn new(bytes: &'a [u8]) -> Cursor<'a>
+    pub(crate) fn new(bytes: &'a [u8]) -> Cursor<'a>
         requires { ⌜ length (now bytes) ≤ 60000 ⌝ }
         ensures stands { λ r. ⌜ Standing r ⌝ }
         ensures rest { λ r. ⌜ unread r ≡ now (bytes .entry) ⌝ }
@@ -50,14 +50,14 @@ impl<'a> Cursor<'a> {
     }
 
     // How many lines were handed out.
-    pub fn line(&self) -> usize
+    pub(crate) fn line(&self) -> usize
         ensures { λ r. ⌜ r ≡ now (self .entry) .line ⌝ }
     {
         self.line
     }
 
     // What was not handed out yet.
-    pub fn rest(&self) -> &'a [u8]
+    pub(crate) fn rest(&self) -> &'a [u8]
         requires { ⌜ Standing (now self) ⌝ }
         ensures { λ r. ⌜ now r ≡ unread (now (self .entry)) ⌝ }
     {
@@ -65,7 +65,7 @@ impl<'a> Cursor<'a> {
     }
 
     // The next line without its byte 10; nothing where no byte 10 is left.
-    pub fn next_line(&mut self) -> Option<&'a [u8]>
+    pub(crate) fn next_line(&mut self) -> Option<&'a [u8]>
         requires { ⌜ Standing (now self) ⌝ }
         ensures stands { λ _. ⌜ Standing (now (self .exit)) ⌝ }
         ensures cases { λ r. ⌜ BySome r

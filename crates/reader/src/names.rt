@@ -62,7 +62,7 @@ fn is_order(columns: &[u8], names: &[u8]) -> bool
 }
 
 // The kind's set of columns that a line names, if it names one.
-pub fn choose(kind: Kind, names: &[u8]) -> Option<Layout>
+pub(crate) fn choose(kind: Kind, names: &[u8]) -> Option<Layout>
     ensures { λ r. ⌜ mapped entry r ≡ chosen (layouts kind) (pieces 44 (now (names .entry))) ⌝ }
 {
     let mut i = 0;
@@ -90,7 +90,7 @@ fn position(names: &[u8], name: &[u8]) -> Option<usize>
 }
 
 // The places of the first values among the first names.
-pub fn find_places(values: &[u8], names: &[u8]) -> [usize; 3]
+pub(crate) fn find_places(values: &[u8], names: &[u8]) -> [usize; 3]
     ensures { λ r. ⌜ ((i : ℕ) → i < 3 → i < length (pieces 44 (now (values .entry))) →
         getD r i 0 ≡ valueOr (place (getD (pieces 44 (now (values .entry))) i []) (take 3 (pieces 44 (now (names .entry))))) 0) ⌝ }
 {

@@ -26,7 +26,7 @@ use crate::values::unended_fault;
 
 // A file after its names line: its columns, where each value of a record stands among them, and the lines to come.
 #[derive(Drop)]
-pub struct Reader<'a> {
+pub(crate) struct Reader<'a> {
     kind: Kind,
     layout: Layout,
     names: &'a [u8],
@@ -57,7 +57,7 @@ fn check_size(bytes: &[u8]) -> Result<(), FileRefusal>
 
 impl<'a> Reader<'a> {
     // The reader of a file, after its names line.
-    pub fn open(kind: Kind, bytes: &'a [u8]) -> Result<Reader<'a>, FileRefusal>
+    pub(crate) fn open(kind: Kind, bytes: &'a [u8]) -> Result<Reader<'a>, FileRefusal>
         ensures { λ r. ⌜ ByOk r
             (λ reader. (left reader ≡ scan kind (now (bytes .entry))) × (reader .cursor .line ≡ 1) × Ready reader)
             (λ e. scan kind (now (bytes .entry)) ≡ refused e) ⌝ }
@@ -85,7 +85,7 @@ impl<'a> Reader<'a> {
     }
 
     // The number of the line that was read last.
-    pub fn line(&self) -> usize
+    pub(crate) fn line(&self) -> usize
         ensures { λ r. ⌜ r ≡ now (self .entry) .cursor .line ⌝ }
     {
         self.cursor.line()
@@ -113,7 +113,7 @@ impl<'a> Reader<'a> {
     }
 
     // The next record, or nothing after the end line.
-    pub fn next(&mut self) -> Result<Option<Record>, FileRefusal>
+    pub(crate) fn next(&mut self) -> Result<Option<Record>, FileRefusal>
         requires { ⌜ Ready (now self) ⌝ }
         ensures { λ r. ⌜ Steps (now (self .entry)) r (now (self .exit)) ⌝ }
     {

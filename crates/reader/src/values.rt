@@ -26,7 +26,7 @@ fn cell_at(cells: &[Cell], place: usize) -> Cell
 }
 
 // The record of a kind, whose values stand at those places among the cells.
-pub fn record_in(kind: Kind, cells: &[Cell], places: &[usize; 3]) -> Option<Record>
+pub(crate) fn record_in(kind: Kind, cells: &[Cell], places: &[usize; 3]) -> Option<Record>
     ensures { λ r. ⌜ r ≡ recordIn kind (λ i. getD (now (cells .entry)) (getD (now (places .entry)) i 0) Other) ⌝ }
 {
     let first = cell_at(cells, places[0]);
@@ -55,7 +55,7 @@ pub fn record_in(kind: Kind, cells: &[Cell], places: &[usize; 3]) -> Option<Reco
 }
 
 // Whether a line's first field is `end`.
-pub fn is_end(line: &[u8]) -> bool
+pub(crate) fn is_end(line: &[u8]) -> bool
     ensures { λ r. ⌜ r ≡ isEnd (now (line .entry)) ⌝ }
 {
     match Fields::of(line).next_field() {
@@ -72,7 +72,7 @@ fn counts_before(n: i32, number: usize) -> bool
 }
 
 // Whether the end line, which is line `number`, counts the value lines before it.
-pub fn counts(line: &[u8], number: usize) -> bool
+pub(crate) fn counts(line: &[u8], number: usize) -> bool
     ensures { λ r. ⌜ r ≡ closes number (pieces 44 (now (line .entry))) ⌝ }
 {
     let mut fields = Fields::of(line);
@@ -92,7 +92,7 @@ pub fn counts(line: &[u8], number: usize) -> bool
 }
 
 // What is wrong with the bytes after the last byte 10, where the end line has not come.
-pub fn unended_fault(rest: &[u8]) -> FileFault
+pub(crate) fn unended_fault(rest: &[u8]) -> FileFault
     ensures { λ r. ⌜ r ≡ unended (now (rest .entry)) ⌝ }
 {
     if rest.is_empty() {
