@@ -21,7 +21,8 @@ use Rattle.graph.specs.Kept.{Live, Rising}
 use Rattle.graph.specs.Block.{Block, Outcome, Kept, blank, arc-at, refused, accepted, put-arc, next-arc, with-arc, dropped, without-arc, with-start, with-end, trimmed, re-trimmed, with-trim}
 use Rattle.graph.specs.Sets.{in-set, cleared, with-cleared}
 use Rattle.graph.specs.Pair.{Marked, PairedIn, Paired}
-use Rattle.graph.proofs.Slots.{put-live, some-same, none-some, none-live, cleared-keeps, numbered-map, rising-map, trims-map}
+use Rattle.graph.proofs.Nodes.{node-below}
+use Rattle.graph.proofs.Slots.{put-live, some-same, none-some, none-live, cleared-keeps, numbered-map, rising-map, nodes-map, trims-map}
 
 not-true : (p : Bool) → not p ≡ false → p ≡ true
 not-true true h = refl
@@ -42,6 +43,7 @@ kept-blank = record {
   room = omega arith;
   numbers = λ n e h. absurd (none-live 1024 n e h);
   rising = λ n e h. absurd (none-live 1024 n e h);
+  nodes = λ n e h. absurd (none-live 1024 n e h);
   trims = λ n e h. absurd (none-live 1024 n e h);
   starts = λ v t h. absurd (none-live 256 v t h);
   ends = λ v t h. absurd (none-live 256 v t h);
@@ -49,21 +51,23 @@ kept-blank = record {
 
 -- one arc written
 kept-put : (b : Block) (n : ℕ) (o : Option LiveArc) → Kept b
-    → ((e : LiveArc) → o ≡ Some e → (n < b .taken) × Precedes (e .from) (e .to) × (isTicks (e .trim) ≡ true)) → Kept (put-arc b n o)
+    → ((e : LiveArc) → o ≡ Some e → (n < b .taken) × Precedes (e .from) (e .to) × (e .to < 256) × (isTicks (e .trim) ≡ true)) → Kept (put-arc b n o)
 kept-put b n o k new = record {
   room = k .room;
   numbers = put-live (b .arcs) n o (λ m _. m < b .taken) (k .numbers) (λ e h. new e h .0);
   rising = put-live (b .arcs) n o (λ _ e. Precedes (e .from) (e .to)) (k .rising) (λ e h. new e h .1);
-  trims = put-live (b .arcs) n o (λ _ e. isTicks (e .trim) ≡ true) (k .trims) (λ e h. new e h .2);
+  nodes = put-live (b .arcs) n o (λ _ e. e .to < 256) (k .nodes) (λ e h. new e h .2);
+  trims = put-live (b .arcs) n o (λ _ e. isTicks (e .trim) ≡ true) (k .trims) (λ e h. new e h .3);
   starts = k .starts;
   ends = k .ends;
 }
 
-kept-next : (b : Block) (u v : ℕ) → Kept b → u < v → Kept (next-arc b u v .after)
-kept-next b u v k r = kept-cond (eqb (b .taken) 1024) _ _ (λ _. k) (λ h. record {
+kept-next : (b : Block) (u v : ℕ) → Kept b → u < v → v < 256 → Kept (next-arc b u v .after)
+kept-next b u v k r low = kept-cond (eqb (b .taken) 1024) _ _ (λ _. k) (λ h. record {
   room = let ne : b .taken ≡ 1024 → ⊥ = λ e. both-ways _ h (eq-eqb (b .taken) 1024 e) in let l = k .room in omega (arith, ne);
   numbers = put-live (b .arcs) (b .taken) _ (λ m _. m < b .taken + 1) (λ m e q. let w = k .numbers m e q in omega arith) (λ e q. omega arith);
   rising = put-live (b .arcs) (b .taken) _ (λ _ e. Precedes (e .from) (e .to)) (k .rising) (λ e q. subst (λ x. Precedes (x .from) (x .to)) (some-same _ e q) r);
+  nodes = put-live (b .arcs) (b .taken) _ (λ _ e. e .to < 256) (k .nodes) (λ e q. subst (λ x. x .to < 256) (some-same _ e q) low);
   trims = put-live (b .arcs) (b .taken) _ (λ _ e. isTicks (e .trim) ≡ true) (k .trims) (λ e q. subst (λ x. isTicks (x .trim) ≡ true) (some-same _ e q) refl);
   starts = k .starts;
   ends = k .ends;
@@ -72,8 +76,8 @@ kept-next b u v k r = kept-cond (eqb (b .taken) 1024) _ _ (λ _. k) (λ h. recor
 pub kept-arc : (b : Block) (u v : ℤ) → Kept b → Kept (with-arc b u v .after)
 kept-arc b u v k =
     kept-cond (not (isNode u) || not (isNode v)) _ _ (λ _. k)
-    (λ _. kept-cond (not (precedes (natAbs u) (natAbs v))) _ _ (λ _. k)
-    (λ h. kept-next b (natAbs u) (natAbs v) k (ltb-true (natAbs u) (natAbs v) (not-true (precedes (natAbs u) (natAbs v)) h))))
+    (λ n. kept-cond (not (precedes (natAbs u) (natAbs v))) _ _ (λ _. k)
+    (λ h. kept-next b (natAbs u) (natAbs v) k (ltb-true (natAbs u) (natAbs v) (not-true (precedes (natAbs u) (natAbs v)) h)) (node-below v (both-true (isNode u) (isNode v) n .1))))
 
 kept-dropped : (b : Block) (n : ℕ) (o : Option LiveArc) → Kept b → Kept (dropped b n o .after)
 kept-dropped b n None k = k
@@ -91,6 +95,7 @@ kept-start b v t k = kept-cond (not (isNode v) || not (isTicks t)) _ _ (λ _. k)
   room = k .room;
   numbers = k .numbers;
   rising = k .rising;
+  nodes = k .nodes;
   trims = k .trims;
   starts = times-put (b .starts) (natAbs v) t (both-true (isNode v) (isTicks t) h .1) (k .starts);
   ends = k .ends;
@@ -101,6 +106,7 @@ kept-end b v t k = kept-cond (not (isNode v) || not (isTicks t)) _ _ (λ _. k) (
   room = k .room;
   numbers = k .numbers;
   rising = k .rising;
+  nodes = k .nodes;
   trims = k .trims;
   starts = k .starts;
   ends = times-put (b .ends) (natAbs v) t (both-true (isNode v) (isTicks t) h .1) (k .ends);
@@ -110,7 +116,7 @@ kept-trimmed : (b : Block) (n : ℕ) (t : ℤ) (o : Option LiveArc) → Kept b �
 kept-trimmed b n t None k live h = k
 kept-trimmed b n t (Some e) k live h = kept-put b n (Some (re-trimmed e t)) k (λ x q.
     let s = some-same (re-trimmed e t) x q in
-    (k .numbers n e live, subst (λ y. Precedes (y .from) (y .to)) s (k .rising n e live), subst (λ y. isTicks (y .trim) ≡ true) s h))
+    (k .numbers n e live, subst (λ y. Precedes (y .from) (y .to)) s (k .rising n e live), subst (λ y. y .to < 256) s (k .nodes n e live), subst (λ y. isTicks (y .trim) ≡ true) s h))
 
 pub kept-trim : (b : Block) (n t : ℤ) → Kept b → Kept (with-trim b n t .after)
 kept-trim b n t k =
@@ -123,6 +129,7 @@ kept-clear b s k = kept-cond (not (isSet s)) _ _ (λ _. k) (λ _.
       room = k .room;
       numbers = numbered-map f keeps (b .arcs) _ refl (b .taken) (k .numbers);
       rising = rising-map f keeps (b .arcs) _ refl (k .rising);
+      nodes = nodes-map f keeps (b .arcs) _ refl (k .nodes);
       trims = trims-map f keeps (b .arcs) _ refl (k .trims);
       starts = k .starts;
       ends = k .ends;
@@ -140,6 +147,7 @@ kept-marked b s u v b′ k m = record {
   room = subst (λ n. n ≤ 1024) (sym (m .taken)) (k .room);
   numbers = λ n e h. subst (λ x. n < x) (sym (m .taken)) (was n (λ _. n < b .taken) (λ e i x. x) (k .numbers n) e h);
   rising = λ n e h. was n (λ e. Precedes (e .from) (e .to)) (λ e i x. x) (k .rising n) e h;
+  nodes = λ n e h. was n (λ e. e .to < 256) (λ e i x. x) (k .nodes n) e h;
   trims = λ n e h. was n (λ e. isTicks (e .trim) ≡ true) (λ e i x. x) (k .trims n) e h;
   starts = λ w t h. k .starts w t (ap (λ xs. getD xs w None) (sym (m .starts)) ∙ h);
   ends = λ w t h. k .ends w t (ap (λ xs. getD xs w None) (sym (m .ends)) ∙ h);

@@ -29,6 +29,7 @@ use Rattle.graph.specs.Sets.{in-set, re-set, with-set}
 use Rattle.graph.specs.Pair.{Marked, PairedIn, Paired}
 use Rattle.graph.specs.Computed.{any, leaves-for, leads, lies-between, paired-arc, pair-in, with-pair}
 use Rattle.graph.proofs.Slots.{slot-at, none-some}
+use Rattle.graph.proofs.Nodes.{node-below}
 use Rattle.graph.proofs.Marks.{rises}
 
 or-true : (p q : Bool) → (p || q) ≡ true → (p ≡ true) ⊎ (q ≡ true)
@@ -143,10 +144,6 @@ pair-in-holds b s u v up in′ = go (any (lies-between (b .arcs) u v) (b .arcs))
       },
     )
     go false h = (refl, none h, refl)
-
-node-below : (v : ℤ) → isNode v ≡ true → natAbs v < 256
-node-below (pos n) h = let l = leb-true n 255 (and-parts (leZ (pos 0) (pos n)) (leZ (pos n) (pos 255)) h .1) in omega arith
-node-below (negsuc n) h = absurd (both-ways false refl (and-parts (leZ (pos 0) (negsuc n)) (leZ (negsuc n) (pos 255)) h .0))
 
 -- the last of three parts of a range check
 last-true : (p q r : Bool) → (not p || not q || not r) ≡ false → r ≡ true

@@ -1,3 +1,4 @@
+pub mod Nodes
 pub mod Slots
 pub mod Accepted
 pub mod Segments

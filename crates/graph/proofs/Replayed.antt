@@ -88,4 +88,4 @@ pair-leaves b s u v r b′ k p =
     subst (λ a. Leaves (line-step b (Pair s u v)) b a b′) (same .0) (subst (λ m. Leaves (line-step b (Pair s u v)) b (w .answer) m) (same .1) (pair-leaves-by b s u v (w .answer) (w .after) held))
 
 pub kept-of : (g : TimingGraph) → Kept (block-of g)
-kept-of g = record { room = g .room; numbers = g .numbered; rising = g .rising; trims = g .trimmed; starts = g .started; ends = g .ended }
+kept-of g = record { room = g .room; numbers = g .numbered; rising = g .rising; nodes = g .noded; trims = g .trimmed; starts = g .started; ends = g .ended }

@@ -18,7 +18,7 @@ use Rattle.graph.specs.declared.parts.LiveArc.{LiveArc}
 use Rattle.graph.specs.Order.{Precedes}
 use Rattle.graph.specs.Ranges.{isTicks}
 use Rattle.graph.specs.Slots.{slot-arc, arcs-of}
-use Rattle.graph.specs.Kept.{Numbered, Rising, Trims-in-range}
+use Rattle.graph.specs.Kept.{Numbered, Rising, Nodes-in-range, Trims-in-range}
 use Rattle.graph.specs.Sets.{re-set, with-set, without-set, cleared}
 use Rattle.graph.specs.Sweeps.{lies-on, marked}
 
@@ -140,6 +140,9 @@ module _ (f : Option LiveArc → Option LiveArc) (h : Keeps f) (arcs arcs′ : L
 
   pub rising-map : Rising arcs → Rising arcs′
   rising-map old = moved-live (λ _ e. Precedes (e .from) (e .to)) (λ k e m x. x) old
+
+  pub nodes-map : Nodes-in-range arcs → Nodes-in-range arcs′
+  nodes-map old = moved-live (λ _ e. e .to < 256) (λ k e m x. x) old
 
   pub trims-map : Trims-in-range arcs → Trims-in-range arcs′
   trims-map old = moved-live (λ _ e. isTicks (e .trim) ≡ true) (λ k e m x. x) old

@@ -15,7 +15,7 @@ use Rattle.graph.specs.declared.store.TimingGraph.{TimingGraph}
 use Rattle.graph.specs.Order.{precedes}
 use Rattle.graph.specs.Ranges.{isNode, isArc, isTicks}
 use Rattle.graph.specs.Slots.{arcs-of, times-of}
-use Rattle.graph.specs.Kept.{Numbered, Rising, Trims-in-range, Times-in-range}
+use Rattle.graph.specs.Kept.{Numbered, Rising, Nodes-in-range, Trims-in-range, Times-in-range}
 
 -- taken: how many arc numbers are used up. arcs: what each number has, if it is live. starts, ends: the ticks of each node, if set.
 pub record Block : Type 0 where
@@ -36,6 +36,7 @@ pub record Kept (b : Block) : Type 0 where
   pub room : b .taken ≤ 1024
   pub numbers : Numbered (b .taken) (b .arcs)
   pub rising : Rising (b .arcs)
+  pub nodes : Nodes-in-range (b .arcs)
   pub trims : Trims-in-range (b .arcs)
   pub starts : Times-in-range (b .starts)
   pub ends : Times-in-range (b .ends)

@@ -23,6 +23,10 @@ Numbered taken arcs = (n : ℕ) (e : LiveArc) → Live arcs n e → n < taken
 abbrev pub Rising : List (Option LiveArc) → Type 0
 Rising arcs = (n : ℕ) (e : LiveArc) → Live arcs n e → Precedes (e .from) (e .to)
 
+-- and between nodes: the later one is a node, and so is the earlier
+abbrev pub Nodes-in-range : List (Option LiveArc) → Type 0
+Nodes-in-range arcs = (n : ℕ) (e : LiveArc) → Live arcs n e → e .to < 256
+
 abbrev pub Trims-in-range : List (Option LiveArc) → Type 0
 Trims-in-range arcs = (n : ℕ) (e : LiveArc) → Live arcs n e → isTicks (e .trim) ≡ true
 

@@ -1,6 +1,6 @@
 ghost use Prim.Native.Nat.{_≤_};
 ghost use lib.ListN.{length};
-ghost use Rattle.graph.specs.Kept.{Numbered, Rising, Trims-in-range, Times-in-range};
+ghost use Rattle.graph.specs.Kept.{Numbered, Rising, Nodes-in-range, Trims-in-range, Times-in-range};
 ghost use Rattle.graph.specs.Slots.{arcs-of, times-of};
 ghost use Rattle.graph.specs.Sorting.{Stops, Segments};
 use crate::parts::ArcSlot;
@@ -17,6 +17,7 @@ pub struct TimingGraph {
     ghost room: { taken ≤ 1024 },
     ghost numbered: { Numbered taken (arcs-of arcs) },
     ghost rising: { Rising (arcs-of arcs) },
+    ghost noded: { Nodes-in-range (arcs-of arcs) },
     ghost trimmed: { Trims-in-range (arcs-of arcs) },
     ghost started: { Times-in-range (times-of starts) },
     ghost ended: { Times-in-range (times-of ends) },

@@ -15,8 +15,9 @@ ghost-self c =
     let g = c .args .self .now in
     let numbers = put-slot slot-arc (g .arcs) _ _ (λ k _. k < g .taken) (g .numbered) (λ e h. absurd (none-some e h)) in
     let rises = put-slot slot-arc (g .arcs) _ _ (λ _ e. Precedes (e .from) (e .to)) (g .rising) (λ e h. absurd (none-some e h)) in
+    let nodes = put-slot slot-arc (g .arcs) _ _ (λ _ e. e .to < 256) (g .noded) (λ e h. absurd (none-some e h)) in
     let trims = put-slot slot-arc (g .arcs) _ _ (λ _ e. isTicks (e .trim) ≡ true) (g .trimmed) (λ e h. absurd (none-some e h)) in
-    (g .room, (numbers, (rises, (trims, (g .started, (g .ended, tt))))))
+    (g .room, (numbers, (rises, (nodes, (trims, (g .started, (g .ended, tt)))))))
 
 pub returns : need.returns
 returns c =

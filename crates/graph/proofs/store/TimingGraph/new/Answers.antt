@@ -25,7 +25,7 @@ ghost-result c = (
       (λ k e h. absurd (no-arcs k e h)),
       (
         (λ k e h. absurd (no-arcs k e h)),
-        ((λ k t h. absurd (no-times k t h)), ((λ k t h. absurd (no-times k t h)), tt)),
+        ((λ k e h. absurd (no-arcs k e h)), ((λ k t h. absurd (no-times k t h)), ((λ k t h. absurd (no-times k t h)), tt))),
       ),
     ),
   ),

@@ -9,7 +9,7 @@ use Rattle.std.proofs.shelf.Signed.{toZ-ofZ}
 use Rattle.graph.specs.Block.{block-of}
 use Rattle.graph.specs.Slots.{arcs-of}
 use Rattle.graph.specs.Sweeps.{marked}
-use Rattle.graph.proofs.Slots.{marked-keeps, numbered-map, rising-map, trims-map}
+use Rattle.graph.proofs.Slots.{marked-keeps, numbered-map, rising-map, nodes-map, trims-map}
 use Rattle.graph.proofs.Marks.{Sides, paired-in, paired-marked, paired-none}
 use Rattle.graph.proofs.store.TimingGraph.pair_by.Needs as need
 use Rattle.graph.proofs.store.TimingGraph.pair_by.Needs.{then-from-to·by·then-from-to, then-from-to·by·else-from-to·then-not-reached-to}
@@ -37,7 +37,7 @@ ghost-self c =
       g .room,
       (
         numbered-map f k (arcs-of (g .arcs)) _ (c .mark .ensures) (g .taken) (g .numbered),
-        (rising-map f k (arcs-of (g .arcs)) _ (c .mark .ensures) (g .rising), (trims-map f k (arcs-of (g .arcs)) _ (c .mark .ensures) (g .trimmed), (g .started, (g .ended, tt)))),
+        (rising-map f k (arcs-of (g .arcs)) _ (c .mark .ensures) (g .rising), (nodes-map f k (arcs-of (g .arcs)) _ (c .mark .ensures) (g .noded), (trims-map f k (arcs-of (g .arcs)) _ (c .mark .ensures) (g .trimmed), (g .started, (g .ended, tt))))),
       ),
     )
 

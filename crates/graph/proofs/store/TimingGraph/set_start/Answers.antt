@@ -13,7 +13,7 @@ ghost-self c =
     let g = c .args .self .now in
     let times = put-slot slot-time (g .starts) _ _ (λ _ t. isTicks t ≡ true) (g .started)
     (λ t h. subst (λ x. isTicks x ≡ true) (some-same _ t h) (sym (c .if-not-is-ticks .ensures tt))) in
-    (g .room, (g .numbered, (g .rising, (g .trimmed, (times, (g .ended, tt))))))
+    (g .room, (g .numbered, (g .rising, (g .noded, (g .trimmed, (times, (g .ended, tt)))))))
 
 pub returns : need.returns
 returns c =

@@ -17,9 +17,10 @@ ghost-self c =
     let numbers = put-slot slot-arc (g .arcs) _ _ (λ k _. k < g .taken) (g .numbered) (λ e h. g .numbered _ _ live) in
     let rises = put-slot slot-arc (g .arcs) _ _ (λ _ e. Precedes (e .from) (e .to)) (g .rising)
     (λ e h. subst (λ x. Precedes (x .from) (x .to)) (some-same _ e h) (g .rising _ _ live)) in
+    let nodes = put-slot slot-arc (g .arcs) _ _ (λ _ e. e .to < 256) (g .noded) (λ e h. subst (λ x. x .to < 256) (some-same _ e h) (g .noded _ _ live)) in
     let trims = put-slot slot-arc (g .arcs) _ _ (λ _ e. isTicks (e .trim) ≡ true) (g .trimmed)
     (λ e h. subst (λ x. isTicks (x .trim) ≡ true) (some-same _ e h) (sym (c .if-not-is-ticks .ensures tt))) in
-    (g .room, (numbers, (rises, (trims, (g .started, (g .ended, tt))))))
+    (g .room, (numbers, (rises, (nodes, (trims, (g .started, (g .ended, tt)))))))
 
 pub returns : need.returns
 returns c =
