@@ -1,0 +1,13 @@
+pub mod Rows
+pub mod Tags
+pub mod Blocks
+pub mod Paths
+pub mod Times
+pub mod Sheets
+pub mod Traces
+pub mod Relations
+pub mod Sound
+pub mod Graphs
+pub mod Theorems
+pub mod Calls
+pub mod Cases
