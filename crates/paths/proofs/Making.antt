@@ -14,7 +14,7 @@ use Rattle.std.specs.declared.option.Option.the-variants.{Some, None}
 use Rattle.std.specs.declared.result.Result.{Result}
 use Rattle.std.specs.declared.result.Result.the-variants.{Ok, Err}
 use Rattle.std.proofs.shelf.Signed.{ints}
-use Rattle.std.proofs.shelf.Tests.{and-parts}
+use Rattle.std.proofs.shelf.Tests.{and-parts, and-from, both-ways}
 use Rattle.measure.specs.Rows.{Within}
 use Rattle.delay.specs.Entries.{Entry}
 use Rattle.graph.specs.declared.parts.LiveArc.{LiveArc}
@@ -22,7 +22,7 @@ use Rattle.graph.specs.Ranges.{isTicks}
 use Rattle.graph.specs.Block.{Block, Kept}
 use Rattle.paths.specs.Blocks.{Arc, RowBlock, Live, ByNumber}
 use Rattle.paths.specs.Sound.{Sound}
-use Rattle.paths.specs.Graphs.{WorkOrder, by-node, Suits, Untimed, faulty, beyond, arc-ticks, in-front, arc-of, arcs-in-ticks, block-in-ticks, in-ticks, node-count, Stops}
+use Rattle.paths.specs.Graphs.{WorkOrder, by-node, Suits, Untimed, faulty, beyond, arc-ticks, in-front, arc-of, arcs-in-ticks, block-in-ticks, in-ticks, node-count, NoTicks, by-fault, by-range, Stops}
 use Rattle.paths.proofs.Choosing.{In, in-nil, in-all, none-some, some-is}
 
 -- ---- answers that are there
@@ -149,6 +149,17 @@ pub mapped-err : {A B E : Type 0} (f : A → B) (r : Result A E) (x : E) → map
 mapped-err f (Ok y) x h = absurd (err-ok x (f y) (sym h))
 mapped-err f (Err e) x h = ap Err (err-is e x h)
 
+within-ticks : (z : ℤ) → Within 1000000 z → isTicks z ≡ true
+within-ticks z h = and-from (leZ (negsuc 999999) z) (leZ z (pos 1000000)) (grind (arith, ints)) (grind (arith, ints))
+
+no-ticks : (n : ℕ) (trim : ℤ) (entry : Entry) (x : Untimed) → arc-ticks n trim entry ≡ Err x → NoTicks n trim entry x
+no-ticks n trim (Err f) x h = subst (λ y. NoTicks n trim (Err f) y) (err-is {A = ℤ} (faulty f) x h) (by-fault f refl)
+no-ticks n trim (Ok d) x h = go (isTicks (d +ℤ trim)) refl h
+  where
+    go : (t : Bool) → isTicks (d +ℤ trim) ≡ t → cond {A = Result ℤ Untimed} t (Ok (d +ℤ trim)) (Err (beyond n)) ≡ Err x → NoTicks n trim (Ok d) x
+    go true e q = absurd (err-ok x (d +ℤ trim) (sym q))
+    go false e q = subst (λ y. NoTicks n trim (Ok d) y) (err-is {A = ℤ} (beyond n) x q) (by-range d refl (λ w. both-ways (isTicks (d +ℤ trim)) e (within-ticks (d +ℤ trim) w)))
+
 module _ (order : WorkOrder) (means : ℕ → Entry) (x : Untimed) where
   -- numbered from n on
   record Stopped (n : ℕ) (es : List (Option LiveArc)) : Type 0 where
@@ -202,8 +213,13 @@ module _ (order : WorkOrder) (means : ℕ → Entry) (x : Untimed) where
         number = w .index;
         arc = w .arc;
         live = w .live;
-        stopped = subst (λ k. arc-ticks k (w .arc .trim) (means k) ≡ Err x) (let same : 0 + w .index ≡ w .index = omega arith in same) (w .stopped);
-        lower = λ n e i l. subst (λ k. (d : ℤ) × (arc-ticks k (e .trim) (means k) ≡ Ok d)) (let same : 0 + n ≡ n = omega arith in same) (w .lower n e i l);
+        stopped = no-ticks (w .index) (w .arc .trim) (means (w .index)) x
+            (subst (λ k. arc-ticks k (w .arc .trim) (means k) ≡ Err x) (let same : 0 + w .index ≡ w .index = omega arith in same) (w .stopped));
+        lower = λ n e i l.
+            let d = w .lower n e i l in
+            let t = ticks-are (0 + n) (e .trim) (means (0 + n)) (d .0) (d .1) in
+            let same : 0 + n ≡ n = omega arith in
+            (t .0, ap means (sym same) ∙ t .1, subst (λ z. Within 1000000 z) (t .2) (t .3));
       }
 
 -- ---- the block

@@ -8,7 +8,7 @@ use lib.IntN.{ℤ}
 use lib.ListN.{getD}
 use Rattle.std.specs.declared.option.Option.the-variants.{Some, None}
 use Rattle.std.specs.declared.result.Result.the-variants.{Ok}
-use Rattle.measure.specs.Rows.{onSome}
+use Rattle.measure.specs.Rows.{Within, onSome}
 use Rattle.delay.specs.Entries.{Entry}
 use Rattle.graph.specs.declared.parts.LiveArc.{LiveArc}
 use Rattle.graph.specs.Block.{Block, Kept}
@@ -43,6 +43,7 @@ module _ {R : Type 0} (order : WorkOrder) (timeRow arcRow : ℤ → R) (g : Bloc
         delay = ap means (number ∙ sym same) ∙ d .1;
         from-is = ap (λ (x : Arc R). x .from) (o .2) ∙ ap (λ (x : Arc ℤ). x .from) (w .is);
         to-is = ap (λ (x : Arc R). x .to) (o .2) ∙ ap (λ (x : Arc ℤ). x .to) (w .is);
+        in-range = subst (λ z. Within 1000000 z) (d .2) (d .3);
         row-is = ap (λ (x : Arc R). x .row) (o .2) ∙ ap (λ (x : Arc ℤ). arcRow (x .row)) (w .is) ∙ ap arcRow (d .2);
         sets-are = ap (λ (x : Arc R). x .sets) (o .2) ∙ ap (λ (x : Arc ℤ). x .sets) (w .is);
       }

@@ -10,7 +10,7 @@ use Rattle.std.specs.declared.option.Option.{Option}
 use Rattle.std.specs.declared.option.Option.the-variants.{Some, None}
 use Rattle.std.specs.declared.result.Result.{Result}
 use Rattle.std.specs.declared.result.Result.the-variants.{Ok, Err}
-use Rattle.measure.specs.Rows.{onSome}
+use Rattle.measure.specs.Rows.{Within, onSome}
 use Rattle.delay.specs.declared.fault.Fault.{Fault}
 use Rattle.delay.specs.Entries.{Entry}
 use Rattle.graph.specs.declared.parts.LiveArc.{LiveArc}
@@ -99,6 +99,7 @@ pub record IsArc {R : Type 0} (order : WorkOrder) (arcRow : ℤ → R) (g : Bloc
   pub delay : means (a .number) ≡ Ok ticks
   pub from-is : a .from ≡ order .place (arc .from)
   pub to-is : a .to ≡ order .place (arc .to)
+  pub in-range : Within 1000000 (ticks +ℤ arc .trim)
   pub row-is : a .row ≡ arcRow (ticks +ℤ arc .trim)
   pub sets-are : a .sets ≡ arc .sets
 
@@ -112,10 +113,19 @@ pub record Mirrors {R : Type 0} (order : WorkOrder) (timeRow arcRow : ℤ → R)
       → Leads b (order .place u) es (order .place v) → Walks (g .arcs) u (numbers es) v
   pub led : (u v : ℕ) (ns : List ℕ) → Walks (g .arcs) u ns v → (es : List (Arc R)) × Leads b (order .place u) es (order .place v) × (numbers es ≡ ns)
 
--- x is what stops timing at a live arc, and every lower live arc has ticks
+-- an arc with this trim and this entry of its source has ticks
+abbrev pub HasTicks : ℤ → Entry → Type 0
+HasTicks trim entry = (d : ℤ) × (entry ≡ Ok d) × Within 1000000 (d +ℤ trim)
+
+-- why arc n has none
+pub data NoTicks (n : ℕ) (trim : ℤ) (entry : Entry) : Untimed → Type 0 where
+  by-fault : (f : Fault) → entry ≡ Err f → NoTicks n trim entry (faulty f)
+  by-range : (d : ℤ) → entry ≡ Ok d → (Within 1000000 (d +ℤ trim) → ⊥) → NoTicks n trim entry (beyond n)
+
+-- x is why a live arc has no ticks, and every lower live arc has some
 pub record Stops (g : Block) (means : ℕ → Entry) (x : Untimed) : Type 0 where
   pub number : ℕ
   pub arc : LiveArc
   pub live : graph.Live (g .arcs) number arc
-  pub stopped : arc-ticks number (arc .trim) (means number) ≡ Err x
-  pub lower : (n : ℕ) (e : LiveArc) → n < number → graph.Live (g .arcs) n e → (d : ℤ) × (arc-ticks n (e .trim) (means n) ≡ Ok d)
+  pub stopped : NoTicks number (arc .trim) (means number) x
+  pub lower : (n : ℕ) (e : LiveArc) → n < number → graph.Live (g .arcs) n e → HasTicks (e .trim) (means n)
