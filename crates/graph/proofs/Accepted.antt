@@ -1,13 +1,12 @@
 -- What a call that is not refused comes to. A primed number is the one that the code passes on.
-use mathlib.Core.Path.{_≡_, refl, sym, ap, subst, _∙_}
-use mathlib.Core.Bool.{Bool, true, false, cond, not, _||_}
+use mathlib.Core.Path.{_≡_, sym, ap, subst, _∙_}
+use mathlib.Core.Bool.{Bool, true, cond, not, _||_}
 use mathlib.Core.List.{List}
 use Prim.Native.Nat.{ℕ, _+_}
-use lib.Dec.{eqb}
 use lib.IntN.{ℤ, pos, natAbs}
 use lib.ListN.{set}
 use Rattle.std.proofs.shelf.Lists.{map-set}
-use Rattle.std.proofs.shelf.Tests.{eq-eqb, ne-eqb, both-ways}
+use Rattle.std.proofs.shelf.Tests.{eq-eqb, ne-eqb, cond-false, not-from-true, or-from}
 use Rattle.std.specs.declared.option.Option.{Option}
 use Rattle.std.specs.declared.option.Option.the-variants.{Some, None}
 use Rattle.graph.specs.declared.parts.LiveArc.{LiveArc}
@@ -19,12 +18,10 @@ use Rattle.graph.specs.Slots.{slot-arc, slot-time, arcs-of, times-of}
 use Rattle.graph.specs.Block.{Block, Outcome, accepted, refused, arc-at, put-arc, dropped, trimmed, re-trimmed, with-arc, without-arc, with-start, with-end, with-trim}
 
 passed : {A : Type 0} (p : Bool) (w v : A) → p ≡ true → v ≡ cond (not p) w v
-passed true w v h = refl
-passed false w v h = absurd (both-ways false refl h)
+passed p w v h = sym (cond-false (not p) w v (not-from-true p h))
 
 both-passed : {A : Type 0} (p q : Bool) (w v : A) → p ≡ true → q ≡ true → v ≡ cond (not p || not q) w v
-both-passed true q w v h k = passed q w v k
-both-passed false q w v h k = absurd (both-ways false refl h)
+both-passed p q w v h k = sym (cond-false (not p || not q) w v (or-from (not p) (not q) (not-from-true p h) (not-from-true q k)))
 
 moved : {A B : Type 0} (P : A → B → Type 0) (a a′ : A) (b b′ : B) → a ≡ a′ → b ≡ b′ → P a b → P a′ b′
 moved P a a′ b b′ p q h = subst (P a′) q (subst (λ x. P x b) p h)

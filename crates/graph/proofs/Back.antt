@@ -1,12 +1,10 @@
 -- A trim that is set and put back leaves the block as it was.
-use mathlib.Core.Path.{_≡_, refl, sym, ap, subst, _∙_}
+use mathlib.Core.Path.{_≡_, refl, sym, ap, _∙_}
 use mathlib.Core.List.{List}
 use mathlib.Core.Bool.{Bool, true, false, cond, not, _||_}
-use Prim.Native.Nat.{ℕ}
 use lib.IntN.{ℤ, pos, natAbs}
-use lib.ListN.{getD, set}
+use lib.ListN.{set}
 use Rattle.std.proofs.shelf.Lists.{set-set, set-getD}
-use Rattle.std.proofs.shelf.Tests.{both-ways}
 use Rattle.std.specs.Options.{mapped}
 use Rattle.std.specs.declared.option.Option.{Option}
 use Rattle.std.specs.declared.option.Option.the-variants.{Some, None}

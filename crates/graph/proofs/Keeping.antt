@@ -2,13 +2,13 @@
 use mathlib.Core.Path.{_≡_, refl, sym, ap, subst, _∙_}
 use mathlib.Core.List.{List}
 use mathlib.Core.Bool.{Bool, true, false, cond, not, _||_}
-use mathlib.Core.Logic.{inl, inr, ⊎-elim}
+use mathlib.Core.Logic.{⊎-elim}
 use Prim.Native.Nat.{ℕ, _+_, _<_, _≤_}
 use native.Mathlib.Omega.{arith}
 use lib.Dec.{eqb}
-use lib.IntN.{ℤ, pos, natAbs}
+use lib.IntN.{ℤ, natAbs}
 use lib.ListN.{getD, set}
-use Rattle.std.proofs.shelf.Tests.{cases-bool, both-ways, ltb-true, eq-eqb}
+use Rattle.std.proofs.shelf.Tests.{cases-bool, cond-both, both-ways, ltb-true, eq-eqb, not-false, or-parts}
 use Rattle.std.proofs.shelf.Ways.{when-true, when-false}
 use Rattle.std.specs.declared.option.Option.{Option}
 use Rattle.std.specs.declared.option.Option.the-variants.{Some, None}
@@ -17,25 +17,18 @@ use Rattle.std.specs.declared.result.Result.the-variants.{Ok, Err}
 use Rattle.graph.specs.declared.parts.LiveArc.{LiveArc}
 use Rattle.graph.specs.Order.{Precedes, precedes}
 use Rattle.graph.specs.Ranges.{isNode, isArc, isSet, isTicks}
-use Rattle.graph.specs.Kept.{Live, Rising}
-use Rattle.graph.specs.Block.{Block, Outcome, Kept, blank, arc-at, refused, accepted, put-arc, next-arc, with-arc, dropped, without-arc, with-start, with-end, trimmed, re-trimmed, with-trim}
+use Rattle.graph.specs.Block.{Block, Outcome, Kept, blank, arc-at, put-arc, next-arc, with-arc, dropped, without-arc, with-start, with-end, trimmed, re-trimmed, with-trim}
 use Rattle.graph.specs.Sets.{in-set, cleared, with-cleared}
 use Rattle.graph.specs.Pair.{Marked, PairedIn, Paired}
 use Rattle.graph.proofs.Nodes.{node-below}
 use Rattle.graph.proofs.Slots.{put-live, some-same, none-some, none-live, cleared-keeps, numbered-map, rising-map, nodes-map, trims-map}
 
-not-true : (p : Bool) → not p ≡ false → p ≡ true
-not-true true h = refl
-not-true false h = absurd (both-ways true h refl)
-
 -- both parts of a range check passed
 both-true : (p q : Bool) → (not p || not q) ≡ false → (p ≡ true) × (q ≡ true)
-both-true true q h = (refl, not-true q h)
-both-true false q h = absurd (both-ways true h refl)
+both-true p q h = let x = or-parts (not p) (not q) h in (not-false p (x .0), not-false q (x .1))
 
 kept-cond : {A : Type 0} (c : Bool) (w v : Outcome A) → (c ≡ true → Kept (w .after)) → (c ≡ false → Kept (v .after)) → Kept (cond c w v .after)
-kept-cond true w v p q = p refl
-kept-cond false w v p q = q refl
+kept-cond c w v p q = cond-both c w v (λ x. Kept (x .after)) p q
 
 pub kept-blank : Kept blank
 unfolding blank
@@ -77,7 +70,7 @@ pub kept-arc : (b : Block) (u v : ℤ) → Kept b → Kept (with-arc b u v .afte
 kept-arc b u v k =
     kept-cond (not (isNode u) || not (isNode v)) _ _ (λ _. k)
     (λ n. kept-cond (not (precedes (natAbs u) (natAbs v))) _ _ (λ _. k)
-    (λ h. kept-next b (natAbs u) (natAbs v) k (ltb-true (natAbs u) (natAbs v) (not-true (precedes (natAbs u) (natAbs v)) h)) (node-below v (both-true (isNode u) (isNode v) n .1))))
+    (λ h. kept-next b (natAbs u) (natAbs v) k (ltb-true (natAbs u) (natAbs v) (not-false (precedes (natAbs u) (natAbs v)) h)) (node-below v (both-true (isNode u) (isNode v) n .1))))
 
 kept-dropped : (b : Block) (n : ℕ) (o : Option LiveArc) → Kept b → Kept (dropped b n o .after)
 kept-dropped b n None k = k

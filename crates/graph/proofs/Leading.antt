@@ -1,16 +1,15 @@
 -- The computed pair is the pair by paths.
-use mathlib.Core.Path.{_≡_, refl, sym, ap, subst, _∙_}
+use mathlib.Core.Path.{_≡_, refl, sym, ap, _∙_}
 use mathlib.Core.List.{List, [], _∷_, map}
-use mathlib.Core.Bool.{Bool, true, false, cond, not, _&&_, _||_}
-use mathlib.Core.Logic.{_⊎_, inl, inr, ⊎-elim}
+use mathlib.Core.Bool.{Bool, true, false, cond, not, _||_}
+use mathlib.Core.Logic.{_⊎_, ⊎-elim}
 use Prim.Native.Nat.{ℕ, zero, suc, _+_, _<_, _≤_}
 use native.Mathlib.Omega.{arith}
 use lib.Dec.{eqb}
-use lib.IntN.{ℤ, pos, negsuc, natAbs}
+use lib.IntN.{ℤ, natAbs}
 use lib.ListN.{length, getD}
-use lib.Signed.{leZ}
 use Rattle.std.proofs.shelf.Lists.{length-map, ext-getD, getD-map}
-use Rattle.std.proofs.shelf.Tests.{and-parts, and-from, both-ways, cases-bool, eqb-true, eq-eqb, leb-true, or-parts}
+use Rattle.std.proofs.shelf.Tests.{and-parts, and-from, both-ways, cases-bool, eqb-true, eq-eqb, or-cases, or-right}
 use Rattle.std.proofs.shelf.Ways.{same-from-decides, when-true, when-false}
 use Rattle.std.specs.Orderings.{When, Decides}
 use Rattle.std.specs.declared.option.Option.{Option}
@@ -29,22 +28,13 @@ use Rattle.graph.specs.Sets.{in-set, re-set, with-set}
 use Rattle.graph.specs.Pair.{Marked, PairedIn, Paired}
 use Rattle.graph.specs.Computed.{any, leaves-for, leads, lies-between, paired-arc, pair-in, with-pair}
 use Rattle.graph.proofs.Slots.{slot-at, none-some}
-use Rattle.graph.proofs.Nodes.{node-below}
-use Rattle.graph.proofs.Marks.{rises}
-
-or-true : (p q : Bool) → (p || q) ≡ true → (p ≡ true) ⊎ (q ≡ true)
-or-true true q h = inl refl
-or-true false q h = inr h
-
-or-right : (p q : Bool) → q ≡ true → (p || q) ≡ true
-or-right true q h = refl
-or-right false q h = h
+use Rattle.graph.proofs.Marks.{three-true, in-bounds}
 
 -- some arc of the list passes a test that no missing arc passes
 any-some : (p : Option LiveArc → Bool) → p None ≡ false → (os : List (Option LiveArc)) → any p os ≡ true
     → (n : ℕ) × ((e : LiveArc) × Live os n e × (p (Some e) ≡ true))
 any-some p z [] h = absurd (both-ways false refl h)
-any-some p z (o ∷ os) h = ⊎-elim (here o) (λ q. let r = any-some p z os q in (suc (r .0), r .1)) (or-true (p o) (any p os) h)
+any-some p z (o ∷ os) h = ⊎-elim (here o) (λ q. let r = any-some p z os q in (suc (r .0), r .1)) (or-cases (p o) (any p os) h)
   where
     here : (o : Option LiveArc) → p o ≡ true → (n : ℕ) × ((e : LiveArc) × Live (o ∷ os) n e × (p (Some e) ≡ true))
     here None q = absurd (both-ways _ z q)
@@ -66,7 +56,7 @@ module _ (arcs : List (Option LiveArc)) where
       let t = and-parts (eqb (e .from) u) (leads arcs k (e .to) v) (x .1 .2) in
       let r = leads-sound k (e .to) v (t .1) in
       (x .0 ∷ r .0, (e, x .1 .1, eqb-true (e .from) u (t .0), r .1)))
-      (or-true (eqb u v) (any (leaves-for u (λ w. leads arcs k w v)) arcs) h)
+      (or-cases (eqb u v) (any (leaves-for u (λ w. leads arcs k w v)) arcs) h)
 
   leads-all : (k u v : ℕ) (ns : List ℕ) → length ns ≤ k → Walks arcs u ns v → leads arcs k u v ≡ true
   leads-all zero u v [] h w = eq-eqb u v w
@@ -145,13 +135,6 @@ pair-in-holds b s u v up in′ = go (any (lies-between (b .arcs) u v) (b .arcs))
     )
     go false h = (refl, none h, refl)
 
--- the last of three parts of a range check
-last-true : (p q r : Bool) → (not p || not q || not r) ≡ false → r ≡ true
-last-true true true true h = refl
-last-true true true false h = absurd (both-ways true h refl)
-last-true true false r h = absurd (both-ways true h refl)
-last-true false q r h = absurd (both-ways true h refl)
-
 pub with-pair-holds : (b : Block) (s u v : ℤ) → Rising (b .arcs) → Paired b s u v (with-pair b s u v .answer) (with-pair b s u v .after)
 with-pair-holds b s u v up = go (not (isSet s) || not (isNode u) || not (isNode v)) refl
   where
@@ -159,7 +142,7 @@ with-pair-holds b s u v up = go (not (isSet s) || not (isNode u) || not (isNode 
         → When t ((cond t (refused b 6) (pair-in b (natAbs s) (natAbs u) (natAbs v)) .answer ≡ Err 6) × (cond t (refused b 6) (pair-in b (natAbs s) (natAbs u) (natAbs v)) .after ≡ b))
         (PairedIn b (natAbs s) (natAbs u) (natAbs v) (cond t (refused b 6) (pair-in b (natAbs s) (natAbs u) (natAbs v)) .answer) (cond t (refused b 6) (pair-in b (natAbs s) (natAbs u) (natAbs v)) .after))
     go true h = (refl, refl)
-    go false h = pair-in-holds b (natAbs s) (natAbs u) (natAbs v) up (node-below v (last-true (isSet s) (isNode u) (isNode v) h))
+    go false h = pair-in-holds b (natAbs s) (natAbs u) (natAbs v) up (let l = in-bounds v 255 (three-true (isSet s) (isNode u) (isNode v) h .2) .0 in omega arith)
 
 -- a pair's answer and the block after it are settled
 block-same : (b b′ : Block) → b .taken ≡ b′ .taken → b .arcs ≡ b′ .arcs → b .starts ≡ b′ .starts → b .ends ≡ b′ .ends → b ≡ b′

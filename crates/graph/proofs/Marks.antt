@@ -2,26 +2,27 @@
 use mathlib.Core.Path.{_≡_, refl, sym, ap, subst, _∙_}
 use mathlib.Core.List.{List, [], _∷_, _++_, map}
 use mathlib.Core.Bool.{Bool, true, false, cond, not, _&&_, _||_}
-use mathlib.Core.Logic.{_⊎_, inl, inr, ⊎-elim}
-use Prim.Native.Nat.{ℕ, zero, suc, _<_, _≤_}
+use mathlib.Core.Logic.{_⊎_, inl, inr}
+use Prim.Native.Nat.{ℕ, _<_, _≤_}
 use native.Mathlib.Omega.{arith}
-use lib.IntN.{ℤ, natAbs}
+use lib.IntN.{ℤ, pos, negsuc, natAbs}
+use lib.Signed.{leZ}
 use lib.ListN.{length, getD}
 use Rattle.std.proofs.shelf.Lists.{length-map}
-use Rattle.std.proofs.shelf.Tests.{and-parts, and-from, both-ways}
+use Rattle.std.proofs.shelf.Tests.{and-parts, and-from, both-ways, leb-true, not-false}
 use Rattle.std.specs.Orderings.{When, Decides}
 use Rattle.std.specs.declared.option.Option.{Option}
 use Rattle.std.specs.declared.option.Option.the-variants.{Some, None}
 use Rattle.std.specs.declared.result.Result.{Result}
 use Rattle.std.specs.declared.result.Result.the-variants.{Ok, Err}
 use Rattle.graph.specs.declared.parts.LiveArc.{LiveArc}
-use Rattle.graph.specs.Kept.{Live, Rising}
+use Rattle.graph.specs.Kept.{Rising}
 use Rattle.graph.specs.Ranges.{isNode, isSet}
-use Rattle.graph.specs.Block.{Block, arc-at}
+use Rattle.graph.specs.Block.{Block}
 use Rattle.graph.specs.Paths.{Walks, Reach, Between}
 use Rattle.graph.specs.Sets.{in-set}
 use Rattle.graph.specs.Sweeps.{lies-on, marked}
-use Rattle.graph.specs.Pair.{Marked, PairedIn, Paired}
+use Rattle.graph.specs.Pair.{PairedIn, Paired}
 use Rattle.graph.proofs.Slots.{slot-at}
 
 module _ (arcs : List (Option LiveArc)) where
@@ -92,6 +93,17 @@ pub paired-none : (b : Block) (s from to : ℕ) (A : List Bool) → Rising (b .a
     → (from ≡ to) ⊎ (getD A to false ≡ false) → PairedIn b s from to (Err 11) b
 paired-none b s from to A up all (inl same) = (refl, (λ n h. let z : ⊥ = omega (arith, between-apart (b .arcs) up from to n h, same) in z), refl)
 paired-none b s from to A up all (inr unreached) = (refl, (λ n h. both-ways _ unreached (all to (between-reach (b .arcs) from to n h))), refl)
+
+-- all three parts of a range check passed
+pub three-true : (p q r : Bool) → (not p || not q || not r) ≡ false → (p ≡ true) × (q ≡ true) × (r ≡ true)
+three-true true true r h = (refl, refl, not-false r h)
+three-true true false r h = absurd (both-ways true h refl)
+three-true false q r h = absurd (both-ways true h refl)
+
+-- a number in range is a natural number within the bound
+pub in-bounds : (z : ℤ) (top : ℕ) → (leZ (pos 0) z && leZ z (pos top)) ≡ true → (natAbs z ≤ top) × (z ≡ pos (natAbs z))
+in-bounds (pos n) top h = (leb-true n top (and-parts (leZ (pos 0) (pos n)) (leZ (pos n) (pos top)) h .1), refl)
+in-bounds (negsuc n) top h = absurd (both-ways false refl (and-parts (leZ (pos 0) (negsuc n)) (leZ (negsuc n) (pos top)) h .0))
 
 in-range : (p q r : Bool) → p ≡ true → q ≡ true → r ≡ true → (not p || not q || not r) ≡ false
 in-range true true true hp hq hr = refl

@@ -1,7 +1,6 @@
 -- What the reader's load does is what the lines' calls do.
 use mathlib.Core.Path.{_≡_, refl, sym, ap, subst, _∙_}
 use mathlib.Core.List.{List, [], _∷_}
-use mathlib.Core.Bool.{Bool, true, false, cond, not, _||_}
 use Prim.Native.Nat.{ℕ, _+_}
 use native.Mathlib.Omega.{arith}
 use Rattle.std.specs.Results.{Cases}
@@ -18,9 +17,9 @@ use Rattle.reader.specs.Format.{Scan}
 use Rattle.reader.specs.Loading.{Leaves, Answers, replay, loaded}
 use lib.IntN.{ℤ}
 use Rattle.graph.specs.declared.store.TimingGraph.{TimingGraph}
-use Rattle.graph.specs.Block.{Block, Outcome, Kept, block-of, with-arc}
+use Rattle.graph.specs.Block.{Block, Kept, block-of, verdict}
 use Rattle.graph.specs.Pair.{Paired}
-use Rattle.graph.specs.Computed.{line-outcome, after-by, line-step, with-pair, verdict}
+use Rattle.graph.specs.Computed.{line-outcome, after-by, line-step, with-pair}
 use Rattle.graph.specs.Lines.{Line, Lines, Loads, placed}
 use Rattle.graph.proofs.Keeping.{kept-arc, kept-start, kept-end, kept-paired}
 use Rattle.graph.proofs.Leading.{with-pair-holds, paired-same, paired-refused}

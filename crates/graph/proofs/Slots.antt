@@ -29,6 +29,11 @@ no-arc = record { live = false; arc = record { from = 0; to = 0; trim = pos 0; s
 abbrev pub no-time : TimeSlot
 no-time = record { set = false; ticks = pos 0 }
 
+pub replicate-at : {A : Type 0} (a : A) (n k : ℕ) → getD (replicate n a) k a ≡ a
+replicate-at a zero k = refl
+replicate-at a (suc n) zero = refl
+replicate-at a (suc n) (suc k) = replicate-at a n k
+
 module _ {X : Type 0} where
   pub none-some : (e : X) → _≡_ {A = Option X} None (Some e) → ⊥
   none-some e h = let z : _≡_ {A = ℕ} 0 1 = cc in omega arith
@@ -36,13 +41,8 @@ module _ {X : Type 0} where
   pub some-same : (e e′ : X) → Some e ≡ Some e′ → e ≡ e′
   some-same e e′ h = cc
 
-  pub blank-at : (n k : ℕ) → getD {A = Option X} (replicate n None) k None ≡ None
-  blank-at zero k = refl
-  blank-at (suc n) zero = refl
-  blank-at (suc n) (suc k) = blank-at n k
-
   pub none-live : (n k : ℕ) (e : X) → getD (replicate n None) k None ≡ Some e → ⊥
-  none-live n k e h = none-some e (sym (blank-at n k) ∙ h)
+  none-live n k e h = none-some e (sym (replicate-at None n k) ∙ h)
 
   pub dead : (o : Option X) → ((e : X) → o ≡ Some e → ⊥) → None ≡ o
   dead None h = refl

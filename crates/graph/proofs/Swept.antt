@@ -9,7 +9,6 @@ use lib.ListN.{length, getD, set, replicate}
 use Rattle.std.proofs.shelf.Lists.{getD-set-same, getD-set-other, getD-past, length-set, length-replicate, length-map}
 use Rattle.std.proofs.shelf.Tests.{cases-eq, both-ways, cases-lt}
 use Rattle.std.specs.declared.option.Option.{Option}
-use Rattle.std.specs.declared.option.Option.the-variants.{Some, None}
 use Rattle.graph.specs.declared.parts.LiveArc.{LiveArc}
 use Rattle.graph.specs.declared.parts.ArcEnd.{ArcEnd}
 use Rattle.graph.specs.declared.parts.ArcEnd.the-variants.{Tail, Head}
@@ -19,7 +18,7 @@ use Rattle.graph.specs.Paths.{Walks, Reach}
 use Rattle.graph.specs.Sweeps.{far-at, Visited}
 use Rattle.graph.specs.declared.parts.ArcSlot.{ArcSlot}
 use Rattle.graph.specs.Slots.{slot-arc, arcs-of}
-use Rattle.graph.proofs.Slots.{slot-at, slot-live, live-within, no-arc}
+use Rattle.graph.proofs.Slots.{replicate-at, slot-at, slot-live, live-within, no-arc}
 use Rattle.graph.proofs.Listed.{listed-at, at-listed}
 
 -- paths grow at either end
@@ -35,9 +34,6 @@ pub along : (arcs : List (Option LiveArc)) (P : ℕ → Type 0) → ((n : ℕ) (
     → (u : ℕ) (ns : List ℕ) (v : ℕ) → Walks arcs u ns v → P u → P v
 along arcs P closed u [] v w p = subst P w p
 along arcs P closed u (n ∷ ns) v w p = along arcs P closed (w .0 .to) ns v (w .3) (closed n (w .0) (w .1) (subst P (sym (w .2)) p))
-
-pub live-same : (arcs : List (Option LiveArc)) (n : ℕ) (e e′ : LiveArc) → Live arcs n e → Live arcs n e′ → e ≡ e′
-live-same arcs n e e′ p q = cc
 
 pub set-true : (s : List Bool) (i v : ℕ) → getD s v false ≡ true → getD (set s i true) v false ≡ true
 set-true [] i v h = h
@@ -105,15 +101,10 @@ pub record SweptOn (arcs : List (Option LiveArc)) (from i : ℕ) (s : List Bool)
   pub seed : getD s from false ≡ true
   pub closed : (n : ℕ) (e : LiveArc) → Live arcs n e → e .from < i → getD s (e .from) false ≡ true → getD s (e .to) false ≡ true
 
-pub blank-false : (n v : ℕ) → getD (replicate n false) v false ≡ false
-blank-false zero v = refl
-blank-false (suc n) zero = refl
-blank-false (suc n) (suc v) = blank-false n v
-
 pub on-start : (arcs : List (Option LiveArc)) (from : ℕ) → from < 256 → SweptOn arcs from 0 (set (replicate 256 false) from true)
 on-start arcs from h = record {
   size = length-set (replicate 256 false) from true ∙ length-replicate 256 false;
-  sound = λ v m. ⊎-elim (λ (q : v ≡ from). ([], sym q)) (λ k. absurd (both-ways _ (blank-false 256 v) k)) (set-true-only (replicate 256 false) from v m);
+  sound = λ v m. ⊎-elim (λ (q : v ≡ from). ([], sym q)) (λ k. absurd (both-ways _ (replicate-at false 256 v) k)) (set-true-only (replicate 256 false) from v m);
   seed = getD-set-same (replicate 256 false) from true false (subst (λ n. from < n) (sym (length-replicate 256 false)) h);
   closed = λ n e live l. let z : ⊥ = omega arith in absurd z;
 }
@@ -155,11 +146,11 @@ pub record SweptBack (arcs : List (Option LiveArc)) (to i : ℕ) (s : List Bool)
 pub back-start : (arcs : List (Option LiveArc)) (to : ℕ) → to < 256 → SweptBack arcs to 256 (set (replicate 256 false) to true)
 back-start arcs to h = record {
   size = length-set (replicate 256 false) to true ∙ length-replicate 256 false;
-  sound = λ v m. ⊎-elim (λ (q : v ≡ to). ([], q)) (λ k. absurd (both-ways _ (blank-false 256 v) k)) (set-true-only (replicate 256 false) to v m);
+  sound = λ v m. ⊎-elim (λ (q : v ≡ to). ([], q)) (λ k. absurd (both-ways _ (replicate-at false 256 v) k)) (set-true-only (replicate 256 false) to v m);
   seed = getD-set-same (replicate 256 false) to true false (subst (λ n. to < n) (sym (length-replicate 256 false)) h);
   closed = λ n e live l m. ⊎-elim
       (λ (q : e .to ≡ to). let z : ⊥ = omega arith in absurd z)
-      (λ k. absurd (both-ways _ (blank-false 256 (e .to)) k))
+      (λ k. absurd (both-ways _ (replicate-at false 256 (e .to)) k))
       (set-true-only (replicate 256 false) to (e .to) m);
 }
 

@@ -1,7 +1,6 @@
 -- The content of a timing graph, and what each call on one arc or one bound does to it.
-use mathlib.Core.Path.{_≡_}
 use mathlib.Core.List.{List}
-use mathlib.Core.Bool.{cond, not, _&&_, _||_}
+use mathlib.Core.Bool.{cond, not, _||_}
 use Prim.Native.Nat.{ℕ, _+_, _≤_}
 use lib.Dec.{eqb}
 use lib.IntN.{ℤ, pos, natAbs}
@@ -56,6 +55,11 @@ refused b n = record { answer = Err n; after = b }
 
 abbrev pub accepted : {A : Type 0} → A → Block → Outcome A
 accepted a b = record { answer = Ok a; after = b }
+
+-- accepted or refused, without the number of a new arc
+abbrev pub verdict : {A : Type 0} → Result A ℕ → Result Unit ℕ
+verdict (Ok a) = Ok tt
+verdict (Err n) = Err n
 
 abbrev pub put-arc : Block → ℕ → Option LiveArc → Block
 put-arc b n e = record { taken = b .taken; arcs = set (b .arcs) n e; starts = b .starts; ends = b .ends }

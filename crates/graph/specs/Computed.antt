@@ -1,5 +1,5 @@
 -- A line's call as a function of the block, as the reader's load asks for it.
-use mathlib.Core.Bool.{Bool, true, false, cond, not, _&&_, _||_}
+use mathlib.Core.Bool.{Bool, false, cond, not, _&&_, _||_}
 use mathlib.Core.List.{List, [], _∷_, map}
 use Prim.Native.Nat.{ℕ, zero, suc}
 use lib.Dec.{eqb}
@@ -13,7 +13,7 @@ use Rattle.reader.specs.declared.records.Record.{Record}
 use Rattle.reader.specs.declared.records.Record.the-variants.{Arc, Delay, Bound, Pair}
 use Rattle.graph.specs.declared.parts.LiveArc.{LiveArc}
 use Rattle.graph.specs.Ranges.{isNode, isSet}
-use Rattle.graph.specs.Block.{Block, Outcome, accepted, refused, with-arc, with-start, with-end}
+use Rattle.graph.specs.Block.{Block, Outcome, accepted, refused, verdict, with-arc, with-start, with-end}
 use Rattle.graph.specs.Sets.{in-set}
 
 abbrev pub any : (Option LiveArc → Bool) → List (Option LiveArc) → Bool
@@ -46,11 +46,6 @@ pair-in b s u v =
 
 abbrev pub with-pair : Block → ℤ → ℤ → ℤ → Outcome Unit
 with-pair b s u v = cond (not (isSet s) || not (isNode u) || not (isNode v)) (refused b 6) (pair-in b (natAbs s) (natAbs u) (natAbs v))
-
--- accepted or refused, without the number of a new arc
-abbrev pub verdict : {A : Type 0} → Result A ℕ → Result Unit ℕ
-verdict (Ok a) = Ok tt
-verdict (Err n) = Err n
 
 abbrev pub line-outcome : Block → Record → Outcome Unit
 line-outcome b (Arc from to) = record { answer = verdict (with-arc b from to .answer); after = with-arc b from to .after }

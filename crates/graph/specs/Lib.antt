@@ -11,5 +11,5 @@ pub mod Paths
 pub mod Pair
 pub mod Sweeps
 pub mod Trials
-pub mod Computed
 pub mod Lines
+pub mod Computed

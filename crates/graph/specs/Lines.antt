@@ -18,9 +18,8 @@ use Rattle.reader.specs.Format.{Scan}
 use Rattle.reader.specs.Loading.{Leaves}
 use Rattle.graph.specs.declared.parts.GraphFile.{GraphFile}
 use Rattle.graph.specs.declared.parts.GraphFile.the-variants as of
-use Rattle.graph.specs.Block.{Block, Outcome, with-arc, with-start, with-end}
+use Rattle.graph.specs.Block.{Block, Outcome, verdict, with-arc, with-start, with-end}
 use Rattle.graph.specs.Pair.{Paired}
-use Rattle.graph.specs.Computed.{verdict}
 
 abbrev pub kind-of : GraphFile → Kind
 kind-of of.Arcs = Arcs

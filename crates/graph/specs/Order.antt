@@ -8,3 +8,7 @@ Precedes u v = u < v
 
 abbrev pub precedes : ℕ → ℕ → Bool
 precedes u v = ltb u v
+
+-- the node at a place of the order, counted from 0
+abbrev pub nth-node : ℕ → ℕ
+nth-node place = place

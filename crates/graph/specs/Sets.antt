@@ -1,6 +1,6 @@
 -- The false sets that hold an arc, as the sum of 2 ^ s over the sets s.
-use mathlib.Core.Bool.{Bool, cond, not, _||_}
-use mathlib.Core.List.{List, map}
+use mathlib.Core.Bool.{Bool, cond, not}
+use mathlib.Core.List.{map}
 use Prim.Native.Nat.{ℕ, _-_, _/_, _%_, _^_}
 use lib.Dec.{eqb}
 use lib.Bits.{bitAnd, bitOr}

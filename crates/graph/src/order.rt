@@ -1,9 +1,18 @@
-// The order of the nodes, the lower first, is kept here and in the sweeps over the nodes.
+// The order of the nodes: the lower first.
 ghost use mathlib.Core.Path.{_≡_};
-ghost use Rattle.graph.specs.Order.{precedes};
+ghost use Prim.Native.Nat.{_<_};
+ghost use Rattle.graph.specs.Order.{precedes, nth-node};
 
 pub fn precedes(from: u8, to: u8) -> bool
     ensures { λ r. ⌜ r ≡ precedes from to ⌝ }
 {
     from < to
+}
+
+// The node at a place of the order.
+pub fn nth_node(place: u16) -> u8
+    requires { ⌜ place < 256 ⌝ }
+    ensures { λ r. ⌜ r ≡ nth-node place ⌝ }
+{
+    place as u8
 }

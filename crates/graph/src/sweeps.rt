@@ -9,6 +9,7 @@ ghost use Rattle.graph.specs.Kept.{Rising};
 ghost use Rattle.graph.specs.Index.{Indexes};
 ghost use Rattle.graph.specs.Paths.{Reach};
 ghost use Rattle.graph.specs.Sweeps.{far-at, Visited};
+use crate::order::nth_node;
 use crate::parts::ArcEnd;
 use crate::parts::ArcSlot;
 use crate::parts::LiveArc;
@@ -55,8 +56,8 @@ pub fn ahead(arcs: &[ArcSlot], tails: &ArcIndex, from: u8) -> [bool; 256]
     ensures all { λ r. ⌜ ((v : ℕ) → Reach (arcs-of (now (arcs .entry))) from v → getD r v false ≡ true) ⌝ }
 {
     let mut seen = only(from);
-    for node in 0..256u16 {
-        visit(arcs, tails, ArcEnd::Tail, node as u8, &mut seen);
+    for place in 0..256u16 {
+        visit(arcs, tails, ArcEnd::Tail, nth_node(place), &mut seen);
     }
     seen
 }
@@ -70,8 +71,8 @@ pub fn behind(arcs: &[ArcSlot], heads: &ArcIndex, to: u8) -> [bool; 256]
     ensures all { λ r. ⌜ ((v : ℕ) → Reach (arcs-of (now (arcs .entry))) v to → getD r v false ≡ true) ⌝ }
 {
     let mut seen = only(to);
-    for node in (0..256u16).rev() {
-        visit(arcs, heads, ArcEnd::Head, node as u8, &mut seen);
+    for place in (0..256u16).rev() {
+        visit(arcs, heads, ArcEnd::Head, nth_node(place), &mut seen);
     }
     seen
 }

@@ -1,19 +1,17 @@
 -- What each call does to the sets.
 use mathlib.Core.Path.{_≡_, refl, sym, ap, subst, _∙_}
 use mathlib.Core.List.{List, [], _∷_, map}
-use mathlib.Core.Bool.{Bool, true, false, cond, not, _&&_, _||_}
+use mathlib.Core.Bool.{Bool, true, false, cond, not, _||_}
 use mathlib.Core.Logic.{_⊎_, inl, inr, ⊎-elim}
-use Prim.Native.Nat.{ℕ, zero, suc, _+_, _<_, _/_, _%_, _^_}
+use Prim.Native.Nat.{ℕ, _<_, _%_, _^_}
 use native.Mathlib.Nat.{zero-div}
 use native.Mathlib.Omega.{arith}
 use lib.Dec.{eqb}
-use lib.IntN.{ℤ, pos, negsuc, natAbs}
+use lib.IntN.{ℤ, pos, natAbs}
 use lib.ListN.{getD, set}
-use lib.Signed.{leZ}
 use Rattle.std.proofs.shelf.Lists.{getD-set-other}
-use Rattle.std.proofs.shelf.Tests.{cases-bool, cases-eq, both-ways, and-parts, and-from, eq-eqb, ne-eqb, eqb-true, leb-true}
+use Rattle.std.proofs.shelf.Tests.{cases-bool, cases-eq, cond-both, both-ways, and-parts, and-from, eq-eqb, ne-eqb, eqb-true, or-cases, or-right}
 use Rattle.std.proofs.shelf.Ways.{when-true, when-false}
-use Rattle.std.specs.Orderings.{Decides}
 use Rattle.std.specs.declared.option.Option.{Option}
 use Rattle.std.specs.declared.option.Option.the-variants.{Some, None}
 use Rattle.std.specs.declared.result.Result.{Result}
@@ -23,9 +21,10 @@ use Rattle.graph.specs.Order.{precedes}
 use Rattle.graph.specs.Ranges.{isNode, isArc, isSet, isTicks}
 use Rattle.graph.specs.Kept.{Live}
 use Rattle.graph.specs.Block.{Block, Outcome, Kept, arc-at, refused, accepted, put-arc, next-arc, with-arc, dropped, without-arc, with-start, with-end, trimmed, re-trimmed, with-trim}
-use Rattle.graph.specs.Paths.{Walks, Reach, Between}
+use Rattle.graph.specs.Paths.{Walks, Between}
 use Rattle.graph.specs.Sets.{holds, with-set, without-set, re-set, in-set, cleared, with-cleared}
-use Rattle.graph.specs.Pair.{Marked, PairedIn, Paired}
+use Rattle.graph.specs.Pair.{PairedIn, Paired}
+use Rattle.graph.proofs.Marks.{three-true, in-bounds}
 use Rattle.graph.proofs.Masks.{holds-with, holds-without}
 use Rattle.graph.proofs.Slots.{none-some, some-same, put-live, set-at, slot-at}
 use Rattle.ledger.specs.Laws.{Holds, Filled}
@@ -46,8 +45,7 @@ pub same-then : (b m b′ : Block) → Same-sets b m → Same-sets m b′ → Sa
 same-then b m b′ p q = record { on = λ s n h. q .on s n (p .on s n h); back = λ s n h. p .back s n (q .back s n h) }
 
 same-cond : {A : Type 0} (b : Block) (c : Bool) (w v : Outcome A) → Same-sets b (w .after) → (c ≡ false → Same-sets b (v .after)) → Same-sets b (cond c w v .after)
-same-cond b true w v p q = p
-same-cond b false w v p q = q refl
+same-cond b c w v p q = cond-both c w v (λ x. Same-sets b (x .after)) (λ _. p) q
 
 -- one arc written: what was there and what is there now are in the same sets
 same-put : (b b′ : Block) (i : ℕ) (o : Option LiveArc) → b′ .arcs ≡ set (b .arcs) i o
@@ -109,21 +107,8 @@ pub same-trim : (b : Block) (n t : ℤ) → Same-sets b (with-trim b n t .after)
 same-trim b n t = same-cond b (not (isArc n) || not (isTicks t)) _ _ (same-sets b) (λ _. same-trimmed b (natAbs n) t (arc-at b (natAbs n)) refl)
 
 -- ---- clear
-or-true : (p q : Bool) → (p || q) ≡ true → (p ≡ true) ⊎ (q ≡ true)
-or-true true q h = inl refl
-or-true false q h = inr h
-
-or-right : (p q : Bool) → q ≡ true → (p || q) ≡ true
-or-right true q h = refl
-or-right false q h = h
-
 set-below : (z : ℤ) → isSet z ≡ true → natAbs z < 16
-set-below (pos n) h = let l = leb-true n 15 (and-parts (leZ (pos 0) (pos n)) (leZ (pos n) (pos 15)) h .1) in omega arith
-set-below (negsuc n) h = absurd (both-ways false refl (and-parts (leZ (pos 0) (negsuc n)) (leZ (negsuc n) (pos 15)) h .0))
-
-not-false : (p : Bool) → not p ≡ false → p ≡ true
-not-false true h = refl
-not-false false h = absurd (both-ways true h refl)
+set-below z h = let l = in-bounds z 15 h .0 in omega arith
 
 abbrev cleared-block : Block → ℕ → Block
 cleared-block b g = record { taken = b .taken; arcs = map (cleared g) (b .arcs); starts = b .starts; ends = b .ends }
@@ -164,19 +149,6 @@ clear-keep b g s n l h f = go (isSet g) refl f
     go true q f = cleared-on b (natAbs g) (set-below g q) s n l (cleared-back b (natAbs g) (set-below g q) s (f .0) l (f .1) .1) h
 
 -- ---- pair
-pos-node : (z : ℤ) → isNode z ≡ true → z ≡ pos (natAbs z)
-pos-node (pos n) h = refl
-pos-node (negsuc n) h = absurd (both-ways false refl (and-parts (leZ (pos 0) (negsuc n)) (leZ (negsuc n) (pos 255)) h .0))
-
-pos-set : (z : ℤ) → isSet z ≡ true → z ≡ pos (natAbs z)
-pos-set (pos n) h = refl
-pos-set (negsuc n) h = absurd (both-ways false refl (and-parts (leZ (pos 0) (negsuc n)) (leZ (negsuc n) (pos 15)) h .0))
-
-three-true : (p q r : Bool) → (not p || not q || not r) ≡ false → (p ≡ true) × (q ≡ true) × (r ≡ true)
-three-true true true r h = (refl, refl, not-false r h)
-three-true true false r h = absurd (both-ways true h refl)
-three-true false q r h = absurd (both-ways true h refl)
-
 -- an accepted pair lies in range
 paired-ok : (b : Block) (g u v : ℤ) (b′ : Block) → Paired b g u v (Ok tt) b′
     → ((isSet g ≡ true) × (isNode u ≡ true) × (isNode v ≡ true)) × PairedIn b (natAbs g) (natAbs u) (natAbs v) (Ok tt) b′
@@ -196,7 +168,7 @@ joined-was g s lg ls false o e l h = inl (e, l, h)
 joined-was g s lg ls true None e l h = absurd (none-some e l)
 joined-was g s lg ls true (Some x) e l h =
     let k : (eqb s g || holds (x .sets) s) ≡ true = sym (holds-with (x .sets) g s lg ls) ∙ ap (λ y. holds (y .sets) s) (some-same _ e l) ∙ h in
-    ⊎-elim (λ q. inr (refl, eqb-true s g q)) (λ q. inl (x, refl, q)) (or-true (eqb s g) (holds (x .sets) s) k)
+    ⊎-elim (λ q. inr (refl, eqb-true s g q)) (λ q. inl (x, refl, q)) (or-cases (eqb s g) (holds (x .sets) s) k)
 
 joined-is : (g s : ℕ) → g < 16 → s < 16 → (t : Bool) (o : Option LiveArc) (x : LiveArc) → o ≡ Some x → (holds (x .sets) s ≡ true) ⊎ ((t ≡ true) × (s ≡ g))
     → (e : LiveArc) × (cond t (in-set g o) o ≡ Some e) × (holds (e .sets) s ≡ true)
@@ -217,7 +189,7 @@ pair-back b g u v b′ s n l p h =
     let ok = paired-ok b g u v b′ p in
     let x = ok .1 .1 .arcs n in
     ⊎-elim (λ w. inl w)
-    (λ w. inr (natAbs u, natAbs v, pos-set g (ok .0 .0) ∙ ap pos (sym (w .1)), pos-node u (ok .0 .1), pos-node v (ok .0 .2), x .1 .0 (w .0)))
+    (λ w. inr (natAbs u, natAbs v, in-bounds g 15 (ok .0 .0) .1 ∙ ap pos (sym (w .1)), in-bounds u 255 (ok .0 .1) .1, in-bounds v 255 (ok .0 .2) .1, x .1 .0 (w .0)))
     (joined-was (natAbs g) s (set-below g (ok .0 .0)) l (x .0) (arc-at b n) (h .0) (sym (x .2) ∙ h .1) (h .2))
 
 pub pair-keep : (b : Block) (g u v : ℤ) (b′ : Block) (s n : ℕ) → s < 16 → Paired b g u v (Ok tt) b′ → Holds b s n → Holds b′ s n

@@ -1,6 +1,6 @@
 -- A set holds an arc exactly when a pair accepted since the set was last empty had it on a live path.
 use mathlib.Core.Path.{_≡_, refl, sym, ap, subst, _∙_}
-use mathlib.Core.List.{List, [], _∷_, _++_}
+use mathlib.Core.List.{List, [], _∷_}
 use mathlib.Core.Logic.{_⊎_, inl, inr, ⊎-elim}
 use Prim.Native.Nat.{ℕ, _+_, _<_}
 use native.Mathlib.Omega.{arith}
@@ -21,7 +21,7 @@ use Rattle.reader.specs.Files.{Fitting, Accepted-good}
 use Rattle.reader.specs.Format.{Scan, scan}
 use Rattle.reader.specs.Loading.{Leaves}
 use Rattle.graph.specs.declared.parts.GraphFile.the-variants.{Arcs, Bounds, FalseSets}
-use Rattle.graph.specs.Block.{Block, Kept, blank, with-trim}
+use Rattle.graph.specs.Block.{Block, Kept, blank}
 use Rattle.graph.specs.Paths.{Between}
 use Rattle.graph.specs.Lines.{Line, Lines, Loads}
 use Rattle.graph.specs.Pair.{Paired}
@@ -38,7 +38,7 @@ use Rattle.ledger.specs.Calls.{Calls}
 use Rattle.ledger.specs.Ledger.{Ledger, Trying, no-trial, refused-trial, trial-of, closed, put-back, Acts, Runs}
 use Rattle.ledger.specs.Laws.{Holds, Filled, Pair-line, Pairs, Runs-filled, Put, Sets-hold-pairs}
 use Rattle.ledger.proofs.Undoing.{kept-acts, kept-runs, ok-same, ok-err}
-use Rattle.ledger.proofs.Holding.{Same-sets, same-sets, same-then, same-arc, same-drop, same-start, same-end, same-trim, clear-back, clear-keep, Reason, pair-back, pair-keep, pair-put, pair-paths-on, pair-paths-back}
+use Rattle.ledger.proofs.Holding.{Same-sets, same-sets, same-then, same-arc, same-drop, same-start, same-end, same-trim, clear-back, clear-keep, pair-back, pair-keep, pair-put, pair-paths-on, pair-paths-back}
 
 -- an accepted pair of the call had arc n on a live path
 abbrev Cause : Block → Call → Answer → ℕ → ℕ → Type 0

@@ -21,10 +21,9 @@ use Rattle.graph.specs.Trials as trials
 use Rattle.graph.specs.Trials.{Opened, refusal-in, earlier-of}
 use Rattle.ledger.specs.declared.words.Act.{Act}
 use Rattle.ledger.specs.declared.words.Act.the-variants.{Make, Open, Read, End}
-use Rattle.ledger.specs.declared.words.Call.{Call}
 use Rattle.ledger.specs.declared.words.Reply.{Reply}
 use Rattle.ledger.specs.Answers.{Answer, done, answer-of, call-answer, open-answer}
-use Rattle.ledger.specs.Ledger.{Ledger, Trying, no-trial, refused-trial, trial-of, closed, opened, kept-by, put-back, Acts, Runs, open-after, nested}
+use Rattle.ledger.specs.Ledger.{Ledger, Trying, no-trial, refused-trial, trial-of, closed, kept-by, put-back, Acts, Runs, open-after, nested}
 
 runs-push : (l : Ledger) (xs : List Act) (rs : List Answer) (m : Ledger) (x : Act) (a : Answer) (l′ : Ledger)
     → Runs l xs rs m → Acts m x a l′ → Runs l (xs ++ x ∷ []) (rs ++ a ∷ []) l′

@@ -2,7 +2,6 @@
 use mathlib.Core.Path.{_≡_, refl, sym, ap, subst, _∙_}
 use mathlib.Core.List.{List, [], _∷_}
 use Prim.Native.Nat.{ℕ, _+_}
-use native.Mathlib.Omega.{arith}
 use Rattle.std.specs.Results.{Cases}
 use Rattle.std.specs.declared.option.Option.{Option}
 use Rattle.std.specs.declared.option.Option.the-variants.{Some, None}
@@ -14,7 +13,7 @@ use Rattle.reader.specs.declared.records.Record.the-variants as line
 use Rattle.reader.specs.declared.faults.FileRefusal.{FileRefusal}
 use Rattle.reader.specs.Format.{Scan, scan}
 use Rattle.reader.specs.Loading.{Leaves}
-use Rattle.graph.specs.Block.{Block, Outcome}
+use Rattle.graph.specs.Block.{Block}
 use Rattle.graph.specs.Lines.{Line, Lines, Loads, kind-of}
 use Rattle.graph.proofs.Leading.{paired-same}
 use Rattle.ledger.specs.declared.words.Call.{Call}

@@ -1,6 +1,4 @@
 use Rattle.graph.specs.Slots.{arcs-of}
-use mathlib.Core.Path.{_≡_}
-use lib.ListN.{length}
 use Rattle.graph.proofs.Swept.{Spread}
 use Rattle.graph.proofs.sweeps.visit.Given as given
 
