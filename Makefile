@@ -17,7 +17,7 @@ test:
 bench: target/bench/reader_bench
 	target/bench/reader_bench
 	rt check bench_graph
-	sh bench/pairs.sh
+	CC=$(CC) sh bench/pairs.sh
 
 target/bench/reader_bench: bench/reader.c bench/reader.h bench/reader_bench.c target/staticlib/libbench_reader.a
 	mkdir -p target/bench

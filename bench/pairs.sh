@@ -5,7 +5,7 @@ set -e
 program=${1:-target/bin/bench_graph}
 out=$(mktemp -d)
 trap 'rm -rf "$out"' EXIT
-cc -O3 -o "$out/pairs" bench/pairs.c
+${CC:-gcc} -O3 -o "$out/pairs" bench/pairs.c
 plain=$("$out/pairs")
 here=$("$program" time)
 echo "false-set file of 60,000 bytes: $here ns, in C $plain ns, ratio $(awk "BEGIN { printf \"%.2f\", $here / $plain }")"

@@ -1,6 +1,6 @@
 // A tick count that a memo keeps, with its arc.
 #[derive(Clone, Copy)]
-pub struct Kept {
+pub(crate) struct Kept {
     pub arc: u16,
     pub ticks: i32,
 }

@@ -30,20 +30,20 @@ pub trait Source {
         ensures { λ r. ⌜ r ≡ depth (now (self .entry)) ⌝ };
 }
 
-pub fn is_arc(arc: u16) -> bool
+pub(crate) fn is_arc(arc: u16) -> bool
     ensures { λ r. ⌜ r ≡ leb arc 1023 ⌝ }
 {
     arc <= LAST_ARC
 }
 
-pub fn is_tick_count(z: i64) -> bool
+pub(crate) fn is_tick_count(z: i64) -> bool
     ensures { λ r. ⌜ r ≡ isTickCount z ⌝ }
 {
     -TICK_LIMIT <= z && z <= TICK_LIMIT
 }
 
 // `ticks` where it is a tick count, else a fault.
-pub fn ranged_ticks(ticks: i64, cause: Cause, arc: u16, level: u8) -> Result<i32, Fault>
+pub(crate) fn ranged_ticks(ticks: i64, cause: Cause, arc: u16, level: u8) -> Result<i32, Fault>
     ensures { λ r. ⌜ r ≡ ranged cause arc level ticks ⌝ }
 {
     if is_tick_count(ticks) {

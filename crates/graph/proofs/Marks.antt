@@ -62,14 +62,14 @@ module _ (arcs : List (Option LiveArc)) (from to : ℕ) (A B : List Bool) (S : S
   lies-by (Some e) h =
       let p = and-parts (getD A (e .from) false) (getD B (e .to) false) h in (e, refl, S .ahead _ (p .0), S .behind _ (p .1))
 
-  lies-between : (n : ℕ) → lies-on A B (getD arcs n None) ≡ true → Between arcs from to n
-  lies-between n h = lies-by (getD arcs n None) h
+  lies-is-between : (n : ℕ) → lies-on A B (getD arcs n None) ≡ true → Between arcs from to n
+  lies-is-between n h = lies-by (getD arcs n None) h
 
   marked-is : (s : ℕ) (arcs′ : List (Option LiveArc)) → arcs′ ≡ map (marked s A B) arcs → (n : ℕ)
       → (t : Bool) × Decides t (Between arcs from to n) × (getD arcs′ n None ≡ cond t (in-set s (getD arcs n None)) (getD arcs n None))
   marked-is s arcs′ q n = (
     lies-on A B (getD arcs n None),
-    (lies-between n, between-lies n),
+    (lies-is-between n, between-lies n),
     ap (λ xs. getD xs n None) q ∙ slot-at (marked s A B) None refl arcs n,
   )
 

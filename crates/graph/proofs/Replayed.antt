@@ -58,21 +58,21 @@ lines-replay b (x ∷ xs) e l k =
     onward b xs e l (Err n) m h = refl
 
 -- a load that was accepted
-pub loads-ok : (b : Block) (file : Scan) (b′ : Block) (r : Result Unit FileRefusal) → Kept b → r ≡ Ok tt → Answers (loaded line-step file b) r b′ → Loads b file (Ok tt) b′
-loads-ok b file b′ r k q a = (placed (loaded line-step file b), lines-replay b (file .records) (file .ending) 2 k, leaves (loaded line-step file b) a)
+pub loads-ok : (b : Block) (file : Scan) (b′ : Block) (r : Result Unit FileRefusal) → Kept b → r ≡ Ok tt → (stop : Block) → Answers (loaded line-step file b) stop r b′ → Loads b file (Ok tt) b′
+loads-ok b file b′ r k q stop a = (placed (loaded line-step file b), lines-replay b (file .records) (file .ending) 2 k, leaves (loaded line-step file b) a)
   where
-    leaves : (w : Result Block FileRefusal) → Answers w r b′ → Leaves (placed w) b (Ok tt) b′
+    leaves : (w : Result Block FileRefusal) → Answers w stop r b′ → Leaves (placed w) b (Ok tt) b′
     leaves (Ok n) a = (refl, a .1)
-    leaves (Err e) a = absurd (let z : _≡_ {A = ℕ} 0 1 = cc in omega arith)
+    leaves (Err e) a = absurd (let h = a .0 in let z : _≡_ {A = ℕ} 0 1 = cc in omega arith)
 
 -- a load that was refused
-pub loads-err : (b : Block) (file : Scan) (b′ : Block) (r : Result Unit FileRefusal) (e : FileRefusal) → Kept b → r ≡ Err e → Answers (loaded line-step file b) r b′
+pub loads-err : (b : Block) (file : Scan) (b′ : Block) (r : Result Unit FileRefusal) (e : FileRefusal) → Kept b → r ≡ Err e → (stop : Block) → Answers (loaded line-step file b) stop r b′
     → Loads b file (placed {A = Unit} (Err e)) b
-loads-err b file b′ r e k q a = (placed (loaded line-step file b), lines-replay b (file .records) (file .ending) 2 k, leaves (loaded line-step file b) a)
+loads-err b file b′ r e k q stop a = (placed (loaded line-step file b), lines-replay b (file .records) (file .ending) 2 k, leaves (loaded line-step file b) a)
   where
-    leaves : (w : Result Block FileRefusal) → Answers w r b′ → Leaves (placed w) b (placed {A = Unit} (Err e)) b
+    leaves : (w : Result Block FileRefusal) → Answers w stop r b′ → Leaves (placed w) b (placed {A = Unit} (Err e)) b
     leaves (Ok n) a = absurd (let h = a .0 in let z : _≡_ {A = ℕ} 0 1 = cc in omega arith)
-    leaves (Err f) a = (ap placed (sym q ∙ a), refl)
+    leaves (Err f) a = (ap placed (sym q ∙ a .0), refl)
 
 -- a pair line: what the relation says is what the step computes
 pair-leaves-by : (b : Block) (s u v : ℤ) (a : Result Unit ℕ) (m : Block) → Paired b s u v a m → Leaves (after-by a m) b a m

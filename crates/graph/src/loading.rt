@@ -8,7 +8,7 @@ use crate::store::ArcIndex;
 use crate::store::TimingGraph;
 
 #[derive(Drop)]
-pub struct Loading {
+pub(crate) struct Loading {
     pub(crate) graph: TimingGraph,
     pub(crate) tails: ArcIndex,
     pub(crate) heads: ArcIndex,

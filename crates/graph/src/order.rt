@@ -3,14 +3,14 @@ ghost use mathlib.Core.Path.{_≡_};
 ghost use Prim.Native.Nat.{_<_};
 ghost use Rattle.graph.specs.Order.{precedes, nth-node};
 
-pub fn precedes(from: u8, to: u8) -> bool
+pub(crate) fn precedes(from: u8, to: u8) -> bool
     ensures { λ r. ⌜ r ≡ precedes from to ⌝ }
 {
     from < to
 }
 
 // The node at a place of the order.
-pub fn nth_node(place: u16) -> u8
+pub(crate) fn nth_node(place: u16) -> u8
     requires { ⌜ place < 256 ⌝ }
     ensures { λ r. ⌜ r ≡ nth-node place ⌝ }
 {

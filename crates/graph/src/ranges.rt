@@ -2,25 +2,25 @@
 ghost use mathlib.Core.Path.{_≡_};
 ghost use Rattle.graph.specs.Ranges.{isNode, isArc, isSet, isTicks};
 
-pub fn is_node(node: i32) -> bool
+pub(crate) fn is_node(node: i32) -> bool
     ensures { λ r. ⌜ r ≡ isNode node ⌝ }
 {
     node >= 0 && node <= 255
 }
 
-pub fn is_arc(arc: i32) -> bool
+pub(crate) fn is_arc(arc: i32) -> bool
     ensures { λ r. ⌜ r ≡ isArc arc ⌝ }
 {
     arc >= 0 && arc <= 1023
 }
 
-pub fn is_set(set: i32) -> bool
+pub(crate) fn is_set(set: i32) -> bool
     ensures { λ r. ⌜ r ≡ isSet set ⌝ }
 {
     set >= 0 && set <= 15
 }
 
-pub fn is_ticks(ticks: i32) -> bool
+pub(crate) fn is_ticks(ticks: i32) -> bool
     ensures { λ r. ⌜ r ≡ isTicks ticks ⌝ }
 {
     ticks >= -1_000_000 && ticks <= 1_000_000

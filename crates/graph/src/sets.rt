@@ -39,7 +39,7 @@ fn emptied(slot: ArcSlot, set: u8) -> ArcSlot
 }
 
 // Takes every arc out of a set.
-pub fn empty(arcs: &mut [ArcSlot], set: u8)
+pub(crate) fn empty(arcs: &mut [ArcSlot], set: u8)
     requires { ⌜ set < 16 ⌝ }
     ensures { λ _. ⌜ arcs-of (now (arcs .exit)) ≡ map (cleared set) (arcs-of (now (arcs .entry))) ⌝ }
 {
@@ -74,7 +74,7 @@ fn entered(slot: ArcSlot, set: u8, ahead: &[bool], behind: &[bool]) -> ArcSlot
 }
 
 // Adds to a set every arc from a node of `ahead` to a node of `behind`.
-pub fn mark(arcs: &mut [ArcSlot], set: u8, ahead: &[bool], behind: &[bool])
+pub(crate) fn mark(arcs: &mut [ArcSlot], set: u8, ahead: &[bool], behind: &[bool])
     requires set { ⌜ set < 16 ⌝ }
     requires ahead { ⌜ length (now ahead) ≡ 256 ⌝ }
     requires behind { ⌜ length (now behind) ≡ 256 ⌝ }

@@ -1,3 +1,4 @@
+// How a graph and an index of its arcs are stored, and what each keeps.
 ghost use Prim.Native.Nat.{_≤_};
 ghost use lib.ListN.{length};
 ghost use Rattle.graph.specs.Kept.{Numbered, Rising, Nodes-in-range, Trims-in-range, Times-in-range};

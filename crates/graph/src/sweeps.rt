@@ -48,7 +48,7 @@ fn visit(arcs: &[ArcSlot], index: &ArcIndex, end: ArcEnd, node: u8, seen: &mut [
 }
 
 // The nodes that a path from `from` leads to.
-pub fn ahead(arcs: &[ArcSlot], tails: &ArcIndex, from: u8) -> [bool; 256]
+pub(crate) fn ahead(arcs: &[ArcSlot], tails: &ArcIndex, from: u8) -> [bool; 256]
     requires rising { ⌜ Rising (arcs-of (now arcs)) ⌝ }
     requires indexed { ⌜ Indexes Tail (arcs-of (now arcs)) (now tails) ⌝ }
     ensures size { λ r. ⌜ length r ≡ 256 ⌝ }
@@ -63,7 +63,7 @@ pub fn ahead(arcs: &[ArcSlot], tails: &ArcIndex, from: u8) -> [bool; 256]
 }
 
 // The nodes that a path to `to` comes from.
-pub fn behind(arcs: &[ArcSlot], heads: &ArcIndex, to: u8) -> [bool; 256]
+pub(crate) fn behind(arcs: &[ArcSlot], heads: &ArcIndex, to: u8) -> [bool; 256]
     requires rising { ⌜ Rising (arcs-of (now arcs)) ⌝ }
     requires indexed { ⌜ Indexes Head (arcs-of (now arcs)) (now heads) ⌝ }
     ensures size { λ r. ⌜ length r ≡ 256 ⌝ }

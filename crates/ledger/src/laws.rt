@@ -20,7 +20,9 @@ pub fn ledgers_keep() -> u8
 pub fn sets_hold_pairs() -> u8
     ensures { λ _. ⌜ Sets-hold-pairs ⌝ }
 {
-    format_laws()
+    // the call brings the format's laws into the proof
+    let _ = format_laws();
+    0
 }
 
 // A trial opened and ended leaves all as if it had never been opened.

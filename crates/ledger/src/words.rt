@@ -46,6 +46,6 @@ pub enum Reply {
 pub enum Misuse {
     // There is not one reply for each act.
     Lengths,
-    // A trial is not ended before the next call, or an end has no opening.
+    // A trial is not ended before the next call or the end of the list, or an end has no opening.
     Nesting,
 }

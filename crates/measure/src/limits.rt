@@ -17,7 +17,7 @@ pub fn is_tick_count(t: i32) -> bool
 }
 
 // One place of a sum, or nothing where it leaves the range of a place.
-pub fn add_places(a: i32, b: i32) -> Option<i32>
+pub(crate) fn add_places(a: i32, b: i32) -> Option<i32>
     requires { ⌜ Within 1000000000 a ⌝ ∗ ⌜ Within 1000000000 b ⌝ }
     ensures { λ r. ⌜ Cases r (Within 1000000000 (a +ℤ b) → ⊥) (λ s. Within 1000000000 s × (s ≡ a +ℤ b)) ⌝ }
 {

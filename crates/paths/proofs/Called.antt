@@ -115,4 +115,4 @@ met cs m h k =
 pub cases-are-met : Cases-are-met
 unfolding blank lies-between content-after
 cases-are-met =
-    (met _ _ tt tt, (met _ _ tt tt, (met _ _ tt tt, (met _ _ tt tt, (met _ _ tt tt, (met _ _ tt tt, (met _ _ tt tt, (met _ _ tt tt, (met _ _ tt tt, (tt, (tt, (tt, (tt, (tt, (tt, tt)))))))))))))))
+    (met _ _ tt tt, (met _ _ tt tt, (met _ _ tt tt, (met _ _ tt tt, (met _ _ tt tt, (met _ _ tt tt, (met _ _ tt tt, (met _ _ tt tt, (met _ _ tt tt, (met _ _ tt tt, (tt, (tt, (tt, (tt, (tt, tt)))))))))))))))

@@ -194,7 +194,7 @@ pub record Met (cs : List Call) (m : Measured) : Type 0 where
 
 abbrev pub AsksMet : Question → Type 0
 AsksMet (timing cs m table vs) = Met cs m
-AsksMet (trial cs n t vs) = Unit {0}
+AsksMet (trial cs n t vs) = Met cs in-ticks
 AsksMet (call cs c) = Unit {0}
 AsksMet (margin p t) = Unit {0}
 

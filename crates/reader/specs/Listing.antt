@@ -1,6 +1,6 @@
 -- A file's records by themselves. Assumes nothing.
 use mathlib.Core.Path.{_≡_}
-use Prim.Native.Nat.{ℕ}
+use Prim.Native.Nat.{ℕ, _<_}
 use lib.ListN.{length}
 use Rattle.std.specs.declared.option.Option.{Option}
 use Rattle.std.specs.declared.option.Option.the-variants.{Some, None}
@@ -23,8 +23,8 @@ countBy (Some e) n = Err e
 abbrev pub counted : Scan → Result ℕ FileRefusal
 counted s = countBy (s .ending) (length (s .records))
 
--- the records of a good file, in order; a refusal is the file's own; want of memory says nothing of the file
+-- the records of a good file, in order; a refusal is the file's own; want of memory comes only where there is a record to keep
 abbrev pub Lists : Scan → Result (Vec Record) ListFault → Type 0
 Lists s (Ok v) = (s .ending ≡ None) × (vec-items v ≡ s .records)
 Lists s (Err (File e)) = s .ending ≡ Some e
-Lists s (Err Memory) = Unit {0}
+Lists s (Err Memory) = 0 < length (s .records)

@@ -16,10 +16,10 @@ abbrev pub Leaves : {M E : Type 0} → Result M E → M → Result (Unit {0}) E 
 Leaves (Ok n) m r t = (r ≡ Ok tt) × (t ≡ n)
 Leaves (Err e) m r t = (r ≡ Err e) × (t ≡ m)
 
--- the same, where a refused call may leave anything
-abbrev pub Answers : {M E : Type 0} → Result M E → Result (Unit {0}) E → M → Type 0
-Answers (Ok n) r t = (r ≡ Ok tt) × (t ≡ n)
-Answers (Err e) r t = r ≡ Err e
+-- the same, where a refused call leaves q
+abbrev pub Answers : {M E : Type 0} → Result M E → M → Result (Unit {0}) E → M → Type 0
+Answers (Ok n) q r t = (r ≡ Ok tt) × (t ≡ n)
+Answers (Err e) q r t = (r ≡ Err e) × (t ≡ q)
 
 module _ {M : Type 0} (step : M → Record → Result M ℕ) where
   -- the state after the records, of which the first stands in line l; the first refusal is the answer, and else the file's own
@@ -31,3 +31,8 @@ module _ {M : Type 0} (step : M → Record → Result M ℕ) where
   -- the state after a file
   abbrev pub loaded : Scan → M → Result M FileRefusal
   loaded f m = replay (f .records) (f .ending) 2 m
+
+  -- the state after the records up to the first that is turned down
+  abbrev pub reached : List Record → M → M
+  reached [] m = m
+  reached (x ∷ xs) m = elim (step m x) [ Ok n ↦ reached xs n | Err n ↦ m ]

@@ -37,7 +37,7 @@ impl FileFault {
         }
     }
 
-    // The fault in words.
+    // The fault in words. Whoever takes the records may use any number of the table of refusals.
     fn words(&self) -> &'static str {
         match *self {
             FileFault::NoBytes => "the file has no bytes",

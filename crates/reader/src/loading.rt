@@ -4,7 +4,7 @@ ghost use Rattle.std.specs.declared.result.Result.{Result};
 ghost use Rattle.reader.specs.declared.records.Record.{Record};
 ghost use Rattle.reader.specs.Format.{scan};
 ghost use Rattle.reader.specs.Reading.{left, Ready};
-ghost use Rattle.reader.specs.Loading.{Leaves, Answers, replay, loaded};
+ghost use Rattle.reader.specs.Loading.{Leaves, Answers, replay, loaded, reached};
 use crate::faults::FileFault;
 use crate::faults::FileRefusal;
 use crate::reading::Reader;
@@ -29,7 +29,7 @@ pub trait Sink {
 // Hands the records that are left to the sink, up to the first refusal.
 fn drain<S: Sink>(reader: &mut Reader, sink: &mut S) -> Result<(), FileRefusal>
     requires { ⌜ Ready (now reader) ⌝ }
-    ensures { λ r. ⌜ Answers (replay step (left (now (reader .entry)) .records) (left (now (reader .entry)) .ending) (now (reader .entry) .cursor .line + 1) (holds (now (sink .entry)))) r (holds (now (sink .exit))) ⌝ }
+    ensures { λ r. ⌜ Answers (replay step (left (now (reader .entry)) .records) (left (now (reader .entry)) .ending) (now (reader .entry) .cursor .line + 1) (holds (now (sink .entry)))) (reached step (left (now (reader .entry)) .records) (holds (now (sink .entry)))) r (holds (now (sink .exit))) ⌝ }
 {
     while let Some(record) = reader.next()? {
         if let Err(number) = sink.take(record) {
@@ -42,9 +42,9 @@ fn drain<S: Sink>(reader: &mut Reader, sink: &mut S) -> Result<(), FileRefusal>
     Ok(())
 }
 
-// Hands a file's records to the sink, up to the first refusal. A refused file may leave the sink part of the way.
+// Hands a file's records to the sink, up to the first refusal. A refused file leaves what the records before that made.
 pub fn run<S: Sink>(kind: Kind, bytes: &[u8], sink: &mut S) -> Result<(), FileRefusal>
-    ensures { λ r. ⌜ Answers (loaded step (scan kind (now (bytes .entry))) (holds (now (sink .entry)))) r (holds (now (sink .exit))) ⌝ }
+    ensures { λ r. ⌜ Answers (loaded step (scan kind (now (bytes .entry))) (holds (now (sink .entry)))) (reached step (scan kind (now (bytes .entry)) .records) (holds (now (sink .entry)))) r (holds (now (sink .exit))) ⌝ }
 {
     let mut reader = Reader::open(kind, bytes)?;
     drain(&mut reader, sink)

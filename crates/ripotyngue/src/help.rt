@@ -17,7 +17,8 @@ A file is a line of column names in any order, value lines with their fields in 
 line end,N where N counts the value lines. Commas separate, and each line ends with a line feed.
   arcs    from,to           delays  arc,ticks
   bounds  node,side,ticks   false   set,from,to
-The side is s for a start or e for an end. Numbers have one to seven digits.
+The side is s for a start or e for an end. Numbers have one to seven digits, a minus sign where
+below zero, no leading zero and no -0. A file has at most 60000 bytes.
 ";
 
 pub fn help(rt: &LibcRuntime) -> io::Result<bool> {

@@ -13,12 +13,6 @@ use std::io;
 #[derive(Drop)]
 struct Failed;
 
-impl From<io::Error> for Failed as FailedFromIo {
-    fn from(_error: io::Error) -> Failed {
-        Failed
-    }
-}
-
 // Runs the command, and answers whether all went well.
 fn run(rt: &LibcRuntime) -> io::Result<bool> {
     let mut words = env::args(rt)?;
@@ -42,5 +36,12 @@ fn run(rt: &LibcRuntime) -> io::Result<bool> {
 }
 
 fn main(rt: LibcRuntime) -> Result<(), Failed> {
-    if run(&rt)? { Ok(()) } else { Err(Failed) }
+    match run(&rt) {
+        Ok(true) => Ok(()),
+        Ok(false) => Err(Failed),
+        Err(error) => {
+            let _ = eprintln!(rt, "ripotyngue: {error}");
+            Err(Failed)
+        }
+    }
 }

@@ -11,7 +11,7 @@ returns-in-Break-run g c =
     let p = err-from-errBy (c .from-residual .result) (c .from-residual .ensures .1) in
     let model = loaded (g .S·Sink .step) (scan (c .args .kind) (c .args .bytes .now)) (g .S·Sink .holds (c .args .sink .now)) in
     let held = g .S·Sink .holds (c .args .sink .now) in
-    subst (λ r. Leaves model held r held) (sym (p .1 ∙ ap (λ e. Err e) (p .2))) (dropped-copy model held _ _ (c .in-Break-run .ensures tt))
+    subst (λ r. Leaves model held r held) (sym (p .1 ∙ ap (λ e. Err e) (p .2))) (dropped-copy model _ held _ _ (c .in-Break-run .ensures tt))
 
 pub returns : need.returns
-returns g c = kept-copy _ _ _ _ (c .in-Continue-run .ensures tt)
+returns g c = kept-copy _ _ _ _ _ (c .in-Continue-run .ensures tt)
