@@ -1,0 +1,13 @@
+pub mod Sums
+pub mod Entering
+pub mod Crossed
+pub mod Bringing
+pub mod Blocks
+pub mod Masking
+pub mod Asking
+pub mod Arriving
+pub mod Passing
+pub mod Tabled
+pub mod Requiring
+pub mod Slacking
+pub mod Trailing

@@ -1,0 +1,13 @@
+use mathlib.Core.Path.{_≡_}
+use Prim.Native.Nat.{_+_, _≤_}
+use lib.ListN.{length}
+use Rattle.measure.specs.Rows.{onSome}
+use Rattle.timing.specs.Trails.{back-arcs}
+use Rattle.timing.proofs.Trailing.{ahead}
+use Rattle.timing.proofs.trail.count_back.Given as given
+
+abbrev pub Inv-loop-line : given.InvT-loop-line
+Inv-loop-line l = (l .n + l .i ≤ l .entry .i) × (ahead (l .n) (onSome length (back-arcs (l .lines) (l .i))) ≡ onSome length (back-arcs (l .lines) (l .entry .i)))
+
+abbrev pub μ-loop-line : given.MeasureT-loop-line
+μ-loop-line l = l .i

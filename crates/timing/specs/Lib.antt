@@ -1,0 +1,14 @@
+pub mod Lines
+pub mod Crossings
+pub mod WithRows
+pub mod Masks
+pub mod Bringing
+pub mod Arrived
+pub mod Refusals
+pub mod Asking
+pub mod Blanks
+pub mod Prepared
+pub mod Requiring
+pub mod Slacks
+pub mod Trails
+pub mod Arriving
