@@ -87,7 +87,7 @@ fn arrive<M: Measure>(
 }
 
 // The lines of all nodes with their arrivals, and where each node's lines begin. Answers how many lines there are, or nothing where the table has no room for them.
-pub fn arrive_all<M: Measure>(
+pub(crate) fn arrive_all<M: Measure>(
     graph: &TimingGraph,
     heads: &ArcIndex,
     tables: &Tables,

@@ -53,7 +53,7 @@ fn ask_arc<S: Source>(
 }
 
 // Writes the ticks of all live arcs, the lowest first.
-pub fn ask_all<S: Source>(
+pub(crate) fn ask_all<S: Source>(
     graph: &TimingGraph,
     source: &mut S,
     ticks: &mut [i32],

@@ -23,19 +23,19 @@ const BLANK_ENTRY: NodeEntry = NodeEntry {
     line: 4096,
 };
 
-pub fn blank_lines(lines: &mut [Line])
+pub(crate) fn blank_lines(lines: &mut [Line])
     ensures { λ _. ⌜ now (lines .exit) ≡ replicate (length (now (lines .entry))) blank-line ⌝ }
 {
     lines.fill(BLANK_LINE);
 }
 
-pub fn blank_nodes(nodes: &mut [NodeEntry])
+pub(crate) fn blank_nodes(nodes: &mut [NodeEntry])
     ensures { λ _. ⌜ now (nodes .exit) ≡ replicate (length (now (nodes .entry))) blank-entry ⌝ }
 {
     nodes.fill(BLANK_ENTRY);
 }
 
-pub fn blank_rows<M: Measure>(values: &mut [M])
+pub(crate) fn blank_rows<M: Measure>(values: &mut [M])
     ensures { λ _. ⌜ map row (now (values .exit)) ≡ replicate (length (now (values .entry))) (zeros width) ⌝ }
 {
     let zero = M::zero();

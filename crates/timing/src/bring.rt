@@ -57,7 +57,7 @@ fn bring<M: Measure>(
 }
 
 // Each of the arcs brings the lines of the node that it leaves.
-pub fn bring_all<M: Measure>(
+pub(crate) fn bring_all<M: Measure>(
     numbers: &[u16],
     graph: &TimingGraph,
     tables: &Tables,

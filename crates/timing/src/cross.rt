@@ -14,7 +14,7 @@ use crate::line::Line;
 use measure::Measure;
 
 // The line enters the `count` lines behind the first `base` ones.
-pub fn enter_behind<M: Measure>(
+pub(crate) fn enter_behind<M: Measure>(
     lines: &mut [Line],
     times: &mut [M],
     base: usize,
@@ -64,7 +64,7 @@ fn cross_line<M: Measure>(
 }
 
 // The lines from `first` up to `last` cross an arc, and enter the `count` lines behind the first `base` ones.
-pub fn cross<M: Measure>(
+pub(crate) fn cross<M: Measure>(
     crossing: Crossing<M>,
     first: usize,
     last: usize,

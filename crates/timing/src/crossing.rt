@@ -2,7 +2,7 @@
 
 // An arc by its number: the node that it leads to, the sets that begin where it starts, those that hold it, those that end where it leads to, and its delay.
 #[derive(Clone, Copy)]
-pub struct Crossing<M> {
+pub(crate) struct Crossing<M> {
     pub arc: u16,
     pub to: u16,
     pub begins: u16,

@@ -16,7 +16,7 @@ use graph::ArcIndex;
 use graph::TimingGraph;
 use measure::Measure;
 
-pub fn write_arrivals<M: Measure, S: Source>(
+pub(crate) fn write_arrivals<M: Measure, S: Source>(
     graph: &TimingGraph,
     source: &mut S,
     lines: &mut [Line],

@@ -37,7 +37,7 @@ fn gather(graph: &TimingGraph, outs: &mut [u16], ins: &mut [u16])
 }
 
 // A set begins where an arc of it leaves and none enters, and ends where one enters and none leaves.
-pub fn node_masks(graph: &TimingGraph, begins: &mut [u16], ends: &mut [u16])
+pub(crate) fn node_masks(graph: &TimingGraph, begins: &mut [u16], ends: &mut [u16])
     requires begins { ⌜ length (now begins) ≡ 256 ⌝ }
     requires ends { ⌜ length (now ends) ≡ 256 ⌝ }
     ensures { λ _. ⌜ Masked (block-of (now (graph .entry)) .arcs) (now (begins .exit)) (now (ends .exit)) ⌝ }

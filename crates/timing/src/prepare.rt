@@ -9,7 +9,7 @@ use crate::tables::Tables;
 use delay::Source;
 use graph::TimingGraph;
 
-pub fn prepare<S: Source>(graph: &TimingGraph, source: &mut S) -> Result<Tables, TimeRefusal>
+pub(crate) fn prepare<S: Source>(graph: &TimingGraph, source: &mut S) -> Result<Tables, TimeRefusal>
     ensures prepared { λ r. ⌜ Prepared (block-of (now (graph .entry)) .arcs) (means (now (source .entry))) r ⌝ }
     ensures same { λ _. ⌜ means (now (source .exit)) ≡ means (now (source .entry)) ⌝ }
     ensures level { λ _. ⌜ depth (now (source .exit)) ≡ depth (now (source .entry)) ⌝ }

@@ -13,7 +13,7 @@ use crate::tables::Tables;
 use graph::LiveArc;
 use measure::Measure;
 
-pub fn read_crossing<M: Measure>(number: u16, arc: LiveArc, tables: &Tables) -> Crossing<M>
+pub(crate) fn read_crossing<M: Measure>(number: u16, arc: LiveArc, tables: &Tables) -> Crossing<M>
     requires below { ⌜ number < 1024 ⌝ }
     requires ticked { ⌜ isTicks (getD (now tables .ticks) number (pos 0)) ≡ true ⌝ }
     ensures { λ r. ⌜ meant row r ≡ tabled-crossing arcRow (now (tables .entry)) number arc ⌝ }

@@ -40,7 +40,7 @@ fn find(lines: &[Line], first: usize, last: usize, tag: u16) -> usize
 }
 
 // The earlier of two, of equals the first.
-pub fn earlier<M: Measure>(a: Option<Told<M>>, c: Option<Told<M>>) -> Option<Told<M>>
+pub(crate) fn earlier<M: Measure>(a: Option<Told<M>>, c: Option<Told<M>>) -> Option<Told<M>>
     ensures { λ r. ⌜ told row r ≡ pick (measured width notAfter) (told row a) (told row c) ⌝ }
 {
     match (a, c) {
@@ -121,7 +121,7 @@ fn ask_over<M: Measure>(
 }
 
 // What a node's end asks of its lines.
-pub fn ask_end<M: Measure>(end: Option<M>) -> Option<Told<M>>
+pub(crate) fn ask_end<M: Measure>(end: Option<M>) -> Option<Told<M>>
     ensures { λ r. ⌜ as-list (told row r) ≡ ended (onSome row end) ⌝ }
 {
     let row = end?;
@@ -133,7 +133,7 @@ pub fn ask_end<M: Measure>(end: Option<M>) -> Option<Told<M>>
 }
 
 // The required time of a line with the tag: the earliest of its node's end and of what is asked over the arcs.
-pub fn require<M: Measure>(
+pub(crate) fn require<M: Measure>(
     end: Option<Told<M>>,
     numbers: &[u16],
     tag: u16,

@@ -7,14 +7,14 @@ ghost use Rattle.measure.specs.Rows.{onSome};
 ghost use Rattle.graph.specs.Ranges.{isTicks};
 use measure::Measure;
 
-pub fn arc_row<M: Measure>(ticks: i32) -> M
+pub(crate) fn arc_row<M: Measure>(ticks: i32) -> M
     requires { ⌜ isTicks ticks ≡ true ⌝ }
     ensures { λ r. ⌜ row r ≡ arcRow ticks ⌝ }
 {
     M::arc(ticks).unwrap()
 }
 
-pub fn time_row<M: Measure>(ticks: Option<i32>) -> Option<M>
+pub(crate) fn time_row<M: Measure>(ticks: Option<i32>) -> Option<M>
     requires { ⌜ ((t : ℤ) → ticks ≡ Some t → isTicks t ≡ true) ⌝ }
     ensures { λ r. ⌜ onSome row r ≡ onSome timeRow ticks ⌝ }
 {

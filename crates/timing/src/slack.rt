@@ -34,7 +34,7 @@ fn line_slack<M: Measure>(lines: &[Line], times: &[M], required: &[M], i: usize)
 }
 
 // The least slack of the lines from `first` up to `last`, of equals the lowest line.
-pub fn least_slack<M: Measure>(
+pub(crate) fn least_slack<M: Measure>(
     lines: &[Line],
     times: &[M],
     required: &[M],

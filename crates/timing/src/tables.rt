@@ -4,7 +4,7 @@ ghost use lib.ListN.{length};
 
 // The ticks of each live arc, by number, and the sets that begin and end at each node.
 #[derive(Drop)]
-pub struct Tables {
+pub(crate) struct Tables {
     pub ticks: [i32; 1024],
     pub begins: [u16; 256],
     pub ends: [u16; 256],

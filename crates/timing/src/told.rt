@@ -2,7 +2,7 @@
 
 // A required time or a slack, and the arc and the line that it comes from.
 #[derive(Clone, Copy)]
-pub struct Told<M> {
+pub(crate) struct Told<M> {
     pub row: M,
     pub arc: u16,
     pub line: u16,

@@ -20,7 +20,7 @@ fn link_to(arc: u16, line: u16, onward: bool) -> Link
 }
 
 // A back link leads to a lower line.
-pub fn back_link(lines: &[Line], i: usize) -> Link
+pub(crate) fn back_link(lines: &[Line], i: usize) -> Link
     ensures { λ r. ⌜ r ≡ back-link (now (lines .entry)) i ⌝ }
 {
     if i >= lines.len() {
@@ -31,7 +31,7 @@ pub fn back_link(lines: &[Line], i: usize) -> Link
 }
 
 // A fore link leads to a higher line.
-pub fn fore_link(lines: &[Line], i: usize) -> Link
+pub(crate) fn fore_link(lines: &[Line], i: usize) -> Link
     ensures { λ r. ⌜ r ≡ fore-link (now (lines .entry)) i ⌝ }
 {
     if i >= lines.len() {
@@ -42,7 +42,7 @@ pub fn fore_link(lines: &[Line], i: usize) -> Link
 }
 
 // How many arcs the back links from line i lead over, or nothing where one cannot be followed.
-pub fn count_back(lines: &[Line], mut i: usize) -> Option<usize>
+pub(crate) fn count_back(lines: &[Line], mut i: usize) -> Option<usize>
     ensures { λ r. ⌜ r ≡ onSome length (back-arcs (now (lines .entry)) i) ⌝ }
 {
     let mut n = 0;
@@ -59,7 +59,7 @@ pub fn count_back(lines: &[Line], mut i: usize) -> Option<usize>
 }
 
 // How many arcs the fore links from line i lead over, or nothing where one cannot be followed.
-pub fn count_fore(lines: &[Line], mut i: usize) -> Option<usize>
+pub(crate) fn count_fore(lines: &[Line], mut i: usize) -> Option<usize>
     ensures { λ r. ⌜ r ≡ onSome length (fore-arcs (now (lines .entry)) i) ⌝ }
 {
     let mut n = 0;
