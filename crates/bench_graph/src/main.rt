@@ -1,5 +1,7 @@
 // Loads a false-set file of 60,000 bytes over a block of 256 nodes and 1,024 arcs. With an argument it prints the
 // nanoseconds of the fastest of some loads, else what became of one.
+#![tactic(auto)]
+
 use anyhow::anyhow;
 use graph::{GraphFile, TimingGraph};
 use std::alloc::{AllocError, Global};

@@ -1,4 +1,6 @@
 // The reader as the benchmark's C program calls it.
+#![tactic(auto)]
+
 ghost use Rattle.std.specs.Prelude.{◌≡◌, Ok, Err};
 ghost use Rattle.reader.specs.Format.{scan};
 ghost use Rattle.reader.specs.Listing.{counted};

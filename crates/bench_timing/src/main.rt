@@ -1,5 +1,7 @@
 // Times a block of 256 nodes, 1,024 arcs and 16 false sets. It prints how many lines there are and the sum of the
 // slacks, and with an argument the nanoseconds of the fastest of some timings before them.
+#![tactic(auto)]
+
 mod block;
 
 use anyhow::anyhow;

@@ -1,4 +1,6 @@
 // Delay sources: where the tick count of an arc comes from.
+#![tactic(auto)]
+
 mod annotated;
 mod fault;
 mod kept;

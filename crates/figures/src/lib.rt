@@ -1,4 +1,6 @@
 // Figures worked out by hand, for measures and delay sources.
+#![tactic(auto)]
+
 #[cfg(test)]
 mod layers;
 #[cfg(test)]

@@ -1,4 +1,6 @@
 // A timing graph: up to 1,024 arcs between 256 nodes, start and end ticks, and 16 false sets.
+#![tactic(auto)]
+
 mod calls;
 mod index;
 mod load;

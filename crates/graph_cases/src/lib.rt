@@ -1,4 +1,6 @@
 // Lists of acts on a new timing graph, with the answers that the rules give, worked out by hand.
+#![tactic(auto)]
+
 #[cfg(test)]
 mod acts;
 #[cfg(test)]

@@ -1,5 +1,7 @@
 // Histories with timings: after every list of steps on a new graph, the timer and a person with the list of all open
 // complete paths agree.
+#![tactic(auto)]
+
 mod laws;
 mod reading;
 mod running;

@@ -1,4 +1,6 @@
 // Histories of a timing graph: its content and every answer are those of a ledger of the same acts.
+#![tactic(auto)]
+
 mod calls;
 mod history;
 mod laws;

@@ -1,5 +1,7 @@
 // An independent reader of the timer's answers: it makes random blocks, lists every path of each, decides by the
 // definition which are open, and compares the least slacks with those that the timer finds.
+#![tactic(auto)]
+
 mod blocks;
 mod compare;
 mod dice;

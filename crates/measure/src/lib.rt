@@ -1,4 +1,6 @@
 // Measures: what a time, a delay or a slack is, by the row of whole numbers that it means.
+#![tactic(auto)]
+
 mod early;
 mod limits;
 mod measure;

@@ -1,4 +1,6 @@
 // The theorems about paths, tags and the timing sheet. Each function's contract is one theorem: `blocks` of all sound blocks, `graphs` of the blocks that timing graphs make.
+#![tactic(auto)]
+
 ghost use Rattle.paths.specs.Blocks.{RowBlock};
 ghost use Rattle.paths.specs.Calls.{CallsAreComputed};
 ghost use Rattle.paths.specs.Cases.{CasesHold, CasesAreMet};

@@ -7,7 +7,7 @@ use Rattle.std.specs.Str.{all_ascii_digits, bytes_eq}
 use Rattle.std.proofs.lemmas.Slice.Eq.{bytes_eq-Decides}
 use Rattle.std.proofs.lemmas.List.Sorted.{length_permutation}
 use Rattle.std.proofs.ByRecursion.{all_shuffled, All-append, All-weaker}
-use Rattle.std.proofs.lemmas.Bool.{eq_eqb, ne_eqb, le-ltb, lt-ltb, and_parts}
+use Rattle.std.proofs.lemmas.Bool.{eq-eqb, ne_eqb, le-ltb, lt-ltb, and_parts}
 use Rattle.reader.specs.declared.records.Kind.{Kind}
 use Rattle.reader.specs.declared.records.Side.{Side}
 use Rattle.reader.specs.declared.records.Side.TheVariants.{Start, End}
@@ -29,7 +29,7 @@ use Rattle.reader.proofs.Table.{Plain, Sound, value_name, table, one_of_all, cho
 
 -- ---- a text with no s in it, before an s and alone
 cut_after : (s : ℕ) (p rest : List ℕ) → All (λ b. b ≡ s → ⊥) p → pieces s (p ++ (s ∷ rest)) ≡ p ∷ pieces s rest
-cut_after s [] rest h = rw (eq_eqb s s refl)
+cut_after s [] rest h = rw (eq-eqb s s refl)
 cut_after s (b ∷ p) rest h = rw (ne_eqb b s h.0) (ap (longer b) (cut_after s p rest h.1))
 
 uncut : (s : ℕ) (p : List ℕ) → All (λ b. b ≡ s → ⊥) p → pieces s p ≡ p ∷ []
@@ -191,7 +191,7 @@ module _ (k : Kind) (e : Entry) (n : List ℕ) (ns : List (List ℕ)) (sound : S
       let fields = fields_back (codes "end") (decimal count ∷ []) plain in
       on_end k e (n ∷ ns) l (l + 1) (end_line_of count) p [] (ap (pieces 10) (sym (append-nil (end_line_of count))) ∙ line_cut (codes "end" ∷ decimal count ∷ []) [] plain) refl
       (sym (ap first_is_end fields))
-      (sym (ap (closes (l + 1)) fields ∙ ap (count_is (l + 1)) (number_signed (pos count) small) ∙ eq_eqb (count + 2) (l + 1) (omega arith)))
+      (sym (ap (closes (l + 1)) fields ∙ ap (count_is (l + 1)) (number_signed (pos count) small) ∙ eq-eqb (count + 2) (l + 1) (omega arith)))
       refl
   body_back [] (fs ∷ fss) l count h lines small c = absurd lines
   body_back (r ∷ rs) [] l count h lines small c = absurd lines
@@ -251,4 +251,4 @@ prefix_refused k rs bs i good l h =
 pub size_refused : (k : Kind) (bs : List ℕ)
     → (length bs ≡ 0 → scan k bs ≡ refused (record { fault = NoBytes; line = 0 }))
     × (60000 < length bs → scan k bs ≡ refused (record { fault = TooLong; line = 0 }))
-size_refused k bs = (λ e. rw (eq_eqb (length bs) 0 e), λ l. rw (ne_eqb (length bs) 0 (λ e. omega arith), lt-ltb 60000 (length bs) l))
+size_refused k bs = (λ e. rw (eq-eqb (length bs) 0 e), λ l. rw (ne_eqb (length bs) 0 (λ e. omega arith), lt-ltb 60000 (length bs) l))

@@ -1,4 +1,6 @@
 // Reads the text files of a timing block: a line of column names, value lines, and an end line.
+#![tactic(auto)]
+
 mod faults;
 mod fields;
 mod laws;

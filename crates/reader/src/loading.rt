@@ -27,7 +27,7 @@ pub trait Sink {
 // Hands the records that are left to the sink, up to the first refusal.
 fn drain<S: Sink>(reader: &mut Reader, sink: &mut S) -> Result<(), FileRefusal>
     requires { Ready reader.old }
-    ensures { Answers (replay step (left reader.old).records (left reader.old).ending (reader.old.cursor.line + 1) (holds sink.old)) (reached step (left reader.old).records (holds sink.old)) result (holds sink.new) }
+    ensures { Answers (replay S.step (left reader.old).records (left reader.old).ending (reader.old.cursor.line + 1) (S.holds sink.old)) (reached S.step (left reader.old).records (S.holds sink.old)) result (S.holds sink.new) }
 {
     while let Some(record) = reader.next()? {
         if let Err(number) = sink.take(record) {
@@ -42,7 +42,7 @@ fn drain<S: Sink>(reader: &mut Reader, sink: &mut S) -> Result<(), FileRefusal>
 
 // Hands a file's records to the sink, up to the first refusal. A refused file leaves what the records before that made.
 pub fn run<S: Sink>(kind: Kind, bytes: &[u8], sink: &mut S) -> Result<(), FileRefusal>
-    ensures { Answers (loaded step (scan kind bytes.now) (holds sink.old)) (reached step (scan kind bytes.now).records (holds sink.old)) result (holds sink.new) }
+    ensures { Answers (loaded S.step (scan kind bytes.now) (S.holds sink.old)) (reached S.step (scan kind bytes.now).records (S.holds sink.old)) result (S.holds sink.new) }
 {
     let mut reader = Reader::open(kind, bytes)?;
     drain(&mut reader, sink)
@@ -50,7 +50,7 @@ pub fn run<S: Sink>(kind: Kind, bytes: &[u8], sink: &mut S) -> Result<(), FileRe
 
 // Loads a whole file, or leaves the sink as it was.
 pub fn load<S: Sink + Copy>(kind: Kind, bytes: &[u8], sink: &mut S) -> Result<(), FileRefusal>
-    ensures { Leaves (loaded step (scan kind bytes.now) (holds sink.old)) (holds sink.old) result (holds sink.new) }
+    ensures { Leaves (loaded S.step (scan kind bytes.now) (S.holds sink.old)) (S.holds sink.old) result (S.holds sink.new) }
 {
     let mut copy = *sink;
     run(kind, bytes, &mut copy)?;

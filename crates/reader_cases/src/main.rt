@@ -1,6 +1,8 @@
 // Runs a table of files through the reader. Each line of the standard input is a case: the kind, the expected number (0
 // for an accepted file), the expected line (or the count of value lines), and the file, in which `|` stands for a
 // line feed, `~` for a carriage return and `_` for a space. An empty line and one that begins with `#` say nothing.
+#![tactic(auto)]
+
 mod longest;
 
 use longest::at_the_limit;

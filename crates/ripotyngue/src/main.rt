@@ -1,4 +1,6 @@
 // The program. What it does with files is in the library; here are the command line and the words.
+#![tactic(auto)]
+
 mod answers;
 mod check;
 mod choices;

@@ -1,4 +1,6 @@
 // The tables of a timing sheet, blank or written, and the path that they show for a node.
+#![tactic(auto)]
+
 mod blank;
 mod laws;
 mod line;

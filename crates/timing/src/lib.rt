@@ -1,4 +1,6 @@
 // The timer: the sheet of a graph under a delay source and a measure.
+#![tactic(auto)]
+
 mod arrive;
 mod ask;
 mod backward;

@@ -1,4 +1,6 @@
 // The worked cases of the timing rules, and every refusal of a timing and a trace, through the calls.
+#![tactic(auto)]
+
 mod block;
 mod cases;
 mod refused;

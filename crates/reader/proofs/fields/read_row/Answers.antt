@@ -13,5 +13,5 @@ pub loop-width-preserved : goal.loop-width-preserved
 loop-width-preserved c =
     let inv = c.loop-width.invariant in
     let field = c.in-Some.ensures in
-    let more = told_more cell_of c.loop-width.cells _ _ _ c.loop-width.width field.0 c.cell-of.result (omega arith) inv.0 inv.1 field.1.0 (c.cell-of.ensures field.0 field.1.1) in
+    let more = told_more cell_of c.loop-width.cells _ _ _ c.loop-width.width field.0 c.cell_of.result (omega arith) inv.0 inv.1 field.1.0 (c.cell_of.ensures field.0 field.1.1) in
     (more.0, more.1, simp length-set inv.2)

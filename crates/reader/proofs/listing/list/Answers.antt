@@ -16,6 +16,6 @@ returns-in-err-push c =
 
 pub loop-records-preserved : goal.loop-records-preserved
 loop-records-preserved c =
-    let turn = subst (λ o. Steps c.loop-records.reader (Ok o) c.next.new.self) c.in-Some.is c.in-ok-record.ensures in
-    let pushed : vec_items c.push.new.self ≡ vec_items c.loop-records.records ++ (c.in-Some.record ∷ []) = c.push.ensures.items ∙ ap (λ r. cond (is_ok r) (vec_items c.loop-records.records ++ (c.in-Some.record ∷ [])) (vec_items c.loop-records.records)) c.in-ok-push.was in
+    let turn = subst (λ o. Steps c.loop-records.reader (Ok o) c.next.new.self) c.in-Some.is c.in_ok-record.ensures in
+    let pushed : vec_items c.push.new.self ≡ vec_items c.loop-records.records ++ (c.in-Some.record ∷ []) = c.push.ensures.items ∙ ap (λ r. cond (is_ok r) (vec_items c.loop-records.records ++ (c.in-Some.record ∷ [])) (vec_items c.loop-records.records)) c.in_ok-push.was in
     (list_next (vec_items c.loop-records.records) (vec_items c.push.new.self) _ (left c.loop-records.reader) (left c.next.new.self) c.in-Some.record turn.0 pushed c.loop-records.invariant.0, sym (ap (λ s. s.ending) turn.0) ∙ c.loop-records.invariant.1, turn.2)

@@ -17,7 +17,7 @@ pub returns-in-Err : goal.returns-in-Err
 returns-in-Err g c =
     let step = g.S.Sink.step in
     let now-holds = g.S.Sink.holds c.loop-record.sink in
-    let turn = subst (λ o. Steps c.loop-record.reader (Ok o) c.next.new.self) c.in-Some.is c.in-ok-record.ensures in
+    let turn = subst (λ o. Steps c.loop-record.reader (Ok o) c.next.new.self) c.in-Some.is c.in_ok-record.ensures in
     let down = loads.turned_down (step now-holds c.in-Some.record) now-holds c.in-Err.number _ c.in-Err.ensures in
     let stays = loads.turned_back (step now-holds c.in-Some.record) now-holds c.in-Err.number _ c.in-Err.ensures in
     loads.answered _ _ _ _ _ (sym c.loop-record.invariant.0 ∙ loads.replay_stopped step (left c.loop-record.reader) (left c.next.new.self) c.in-Some.record c.loop-record.reader.cursor.line c.line.result now-holds c.in-Err.number turn.0 (c.line.ensures ∙ turn.1) down) refl
@@ -27,7 +27,7 @@ pub loop-record-preserved : goal.loop-record-preserved
 loop-record-preserved g c =
     let step = g.S.Sink.step in
     let now-holds = g.S.Sink.holds c.loop-record.sink in
-    let turn = subst (λ o. Steps c.loop-record.reader (Ok o) c.next.new.self) c.in-Some.is c.in-ok-record.ensures in
+    let turn = subst (λ o. Steps c.loop-record.reader (Ok o) c.next.new.self) c.in-Some.is c.in_ok-record.ensures in
     let took = loads.took (step now-holds c.in-Some.record) now-holds _ (g.S.Sink.holds c.take.new.self) c.in-default-take.ensures in (
       sym (loads.replay_next step (left c.loop-record.reader) (left c.next.new.self) c.in-Some.record c.loop-record.reader.cursor.line c.next.new.self.cursor.line now-holds (g.S.Sink.holds c.take.new.self) turn.0 turn.1 took) ∙ c.loop-record.invariant.0,
       sym (loads.reached_next step (left c.loop-record.reader) (left c.next.new.self) c.in-Some.record now-holds (g.S.Sink.holds c.take.new.self) turn.0 took) ∙ c.loop-record.invariant.1,
@@ -36,6 +36,6 @@ loop-record-preserved g c =
 
 pub returns : goal.returns
 returns g c =
-    let turn = subst (λ o. Steps c.loop-record.reader (Ok o) c.next.new.self) c.in-default.is c.in-ok-record.ensures in
+    let turn = subst (λ o. Steps c.loop-record.reader (Ok o) c.next.new.self) c.in_default.is c.in-ok-record.ensures in
     let at-stop = reached g.S.Sink.step (left c.args.reader.now).records (g.S.Sink.holds c.args.sink.now) in
     subst (λ a. Answers a at-stop (Ok tt) (g.S.Sink.holds c.loop-record.sink)) (sym (sym c.loop-record.invariant.0 ∙ loads.replay_complete g.S.Sink.step (left c.loop-record.reader) _ _ turn)) (refl, refl)

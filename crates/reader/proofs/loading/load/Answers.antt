@@ -13,4 +13,4 @@ returns-in-err-run g c =
     subst (λ r. Leaves model held r held) (sym (p.1 ∙ ap (λ e. Err e) p.2)) (dropped_copy model _ held _ _ c.in-err-run.ensures)
 
 pub returns : goal.returns
-returns g c = kept_copy _ _ _ _ _ c.in-ok-run.ensures
+returns g c = kept_copy _ _ _ _ _ c.in_ok-run.ensures

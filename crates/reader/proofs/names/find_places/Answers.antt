@@ -18,7 +18,7 @@ loop-i-preserved c =
     let there = next_there values i c.in-Some.name.now [] _ here in
     let room : i < length c.loop-i.places = omega (arith, c.loop-i.invariant.2) in (
       below_more _ _ (λ k h. let ne : k ≢ i = omega arith in rw get_or-set_other (c.loop-i.invariant.0 k h))
-          (λ g. rw get_or-set_same (c.unwrap-or.ensures ∙ ap (λ o. unwrap_or o 0) (c.position.ensures ∙ ap (λ n. place n names) (sym there)))),
+          (λ g. rw get_or-set_same (c.unwrap_or.ensures ∙ ap (λ o. unwrap_or o 0) (c.position.ensures ∙ ap (λ n. place n names) (sym there)))),
       rw add-one (sym (next_dropped values i c.in-Some.name.now _ here)),
       simp length-set c.loop-i.invariant.2,
     )

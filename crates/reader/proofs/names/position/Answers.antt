@@ -7,7 +7,7 @@ pub returns-in-err-field : goal.returns-in-err-field
 returns-in-err-field c = c.from-residual.ensures ∙ place_none c.args.name.now c.loop-i.i (fields_in c.loop-i.rest.rest) _ c.loop-i.invariant c.in-err-field.ensures
 
 pub returns-then-same : goal.returns-then-same
-returns-then-same c = place_here c.args.name.now c.loop-i.i (fields_in c.loop-i.rest.rest) _ c.loop-i.invariant _ _ (omega arith) c.in-ok-field.ensures c.if-same.ensures
+returns-then-same c = place_here c.args.name.now c.loop-i.i (fields_in c.loop-i.rest.rest) _ c.loop-i.invariant _ _ (omega arith) c.in_ok-field.ensures c.if-same.ensures
 
 pub loop-i-preserved : goal.loop-i-preserved
-loop-i-preserved c = place_further c.args.name.now c.loop-i.i (fields_in c.loop-i.rest.rest) _ c.loop-i.invariant _ _ (omega arith) c.in-ok-field.ensures c.if-same.ensures
+loop-i-preserved c = place_further c.args.name.now c.loop-i.i (fields_in c.loop-i.rest.rest) _ c.loop-i.invariant _ _ (omega arith) c.in_ok-field.ensures c.if-same.ensures

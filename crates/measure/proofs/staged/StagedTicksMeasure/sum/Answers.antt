@@ -14,8 +14,8 @@ pub returns : goal.returns
 returns c =
     let a = c.args.self in
     let b = c.args.other in
-    let h = c.in-ok-ticks.ensures in
-    let k = c.in-ok-stages.ensures in
-    let p : to_z w32 (of_z w32 c.in-ok-ticks.ticks) ≡ a.ticks +ℤ b.ticks = omega (arith, ints) in
-    let q : to_z w32 (of_z w32 c.in-ok-stages.stages) ≡ a.stages +ℤ b.stages = omega (arith, ints) in
+    let h = c.in_ok-ticks.ensures in
+    let k = c.in_ok-stages.ensures in
+    let p : to_z w32 (of_z w32 c.in_ok-ticks.ticks) ≡ a.ticks +ℤ b.ticks = omega (arith, ints) in
+    let q : to_z w32 (of_z w32 c.in_ok-stages.stages) ≡ a.stages +ℤ b.stages = omega (arith, ints) in
     summed_some 2 (a.ticks, (a.stages, tt)) (b.ticks, (b.stages, tt)) _ (λ i. (p i, (q i, tt))) (omega (arith, ints), (omega (arith, ints), tt))

@@ -24,17 +24,17 @@ pub returns : goal.returns
 returns c =
     let k = c.args.kind in
     let names = pieces 44 c.in-Some.names.now in
-    let rest = pieces 10 (unread c.next-line.new.self) in
+    let rest = pieces 10 (unread c.next_line.new.self) in
     let chosen = sym c.in-Some-choose.ensures in
-    let row = c.in-Some-read-row.ensures in
-    let first : c.next-line.new.self.line ≡ 1 = omega (arith, c.in-Some.ensures.cases.1, c.new-cursor.ensures.line) in (
-      sym (opens k c.args.bytes.now c.new-cursor.result c.next-line.new.self c.in-Some.names.now (c.in-ok-check-size.ensures.1 k) c.new-cursor.ensures.rest c.in-Some.ensures.cases.0.0
+    let row = c.in-Some-read_row.ensures in
+    let first : c.next_line.new.self.line ≡ 1 = omega (arith, c.in-Some.ensures.cases.1, c.new-cursor.ensures.line) in (
+      sym (opens k c.args.bytes.now c.new-cursor.result c.next_line.new.self c.in-Some.names.now (c.in_ok-check_size.ensures.1 k) c.new-cursor.ensures.rest c.in-Some.ensures.cases.0.0
           ∙ ap (λ o. headed k o names rest) chosen ∙ ap (λ l. body k (entry c.in-Some-choose.layout) names l rest) (sym first)),
       first,
       record {
         cursor = c.in-Some.ensures.stands;
         few = row.1;
         wide = row.0;
-        placed = places_found k names (entry c.in-Some-choose.layout) c.find-places-places.result chosen c.find-places-places.ensures;
+        placed = places_found k names (entry c.in-Some-choose.layout) c.find_places-places.result chosen c.find_places-places.ensures;
       },
     )

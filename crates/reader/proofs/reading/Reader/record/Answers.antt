@@ -11,13 +11,13 @@ returns-in-err-row c =
 
 pub returns-then-row-self : goal.returns-then-row-self
 returns-then-row-self c =
-    let row = c.in-ok-row.ensures in
+    let row = c.in_ok-row.ensures in
     no_record _ (entry c.args.self.now.layout) (pieces 44 c.args.self.now.names.now) _ (λ e. c.if-row-self.true (row.0 ∙ sym e ∙ sym c.requires.wide))
 
 pub returns : goal.returns
 returns c =
-    let row = c.in-ok-row.ensures in
+    let row = c.in_ok-row.ensures in
     let fs = pieces 44 c.args.line.now in
-    c.record-in.ensures
-    ∙ record_row c.args.self.now.kind (entry c.args.self.now.layout) (pieces 44 c.args.self.now.names.now) fs c.in-ok-row.row.cells c.args.self.now.places
-    (sym c.requires.wide ∙ sym c.if-row-self.false ∙ row.0) (ap (λ n. take n c.in-ok-row.row.cells) (sym row.0) ∙ row.2) c.requires.placed
+    c.record_in.ensures
+    ∙ record_row c.args.self.now.kind (entry c.args.self.now.layout) (pieces 44 c.args.self.now.names.now) fs c.in_ok-row.row.cells c.args.self.now.places
+    (sym c.requires.wide ∙ sym c.if-row-self.false ∙ row.0) (ap (λ n. take n c.in_ok-row.row.cells) (sym row.0) ∙ row.2) c.requires.placed
