@@ -17,6 +17,6 @@ pub data Answer : Type 0 where
 
 -- what each reply says
 abbrev pub answer_of : StepReply → Answer
-answer_of (Act r) = acted (answers.answer-of r)
+answer_of (Act r) = acted (answers.answer_of r)
 answer_of (Time r) = timed (result_map_both (λ n. n) refused_time r)
 answer_of (Trace r) = traced (result_map_both (λ o. o) refusal_number r)

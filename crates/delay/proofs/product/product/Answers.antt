@@ -3,8 +3,8 @@ use Rattle.std.proofs.lemmas.Int.{ints}
 use Rattle.delay.proofs.Products.{product_within, product_fits, product_is}
 use Rattle.delay.proofs.product.product.Goals as goal
 
-pub overflow-mul-result : goal.overflow-mul-result
-overflow-mul-result c = product_fits c.args.a c.args.b _ _ (search rules) (search rules) c.from.ensures c.from-2.ensures
+pub overflow_mul-result : goal.overflow_mul-result
+overflow_mul-result c = product_fits c.args.a c.args.b _ _ (search rules) (search rules) c.from.ensures c.from-2.ensures
 
 pub returns : goal.returns
 returns c =

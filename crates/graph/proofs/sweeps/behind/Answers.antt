@@ -10,7 +10,7 @@ loop-place-init c = subst (SweptBack (arcs_of c.args.arcs.now) c.args.to 256) (s
 
 pub loop-place-preserved : goal.loop-place-preserved
 loop-place-preserved c =
-    back_more _ c.requires.rising _ (c.loop-place.place - 1) c.loop-place.place _ _ (omega arith) c.loop-place.invariant c.visit.auto.seen (subst (λ v. Visited Head (arcs_of c.args.arcs.now) v c.loop-place.seen c.visit.new.seen) c.nth-node.ensures c.visit.ensures)
+    back_more _ c.requires.rising _ (c.loop-place.place - 1) c.loop-place.place _ _ (omega arith) c.loop-place.invariant c.visit.auto.seen (subst (λ v. Visited Head (arcs_of c.args.arcs.now) v c.loop-place.seen c.visit.new.seen) c.nth_node.ensures c.visit.ensures)
 
 pub returns : goal.returns
 returns c = record { size = c.loop-place.invariant.size; sound = c.loop-place.invariant.sound; all = back_all _ _ _ _ c.loop-place.invariant (omega arith) }

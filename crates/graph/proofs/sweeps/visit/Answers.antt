@@ -11,18 +11,18 @@ loop-number-init c = spread_none _ _ _ _
 
 pub bounds-arcs-number : goal.bounds-arcs-number
 bounds-arcs-number c =
-    let q = c.arcs-at-number-items.ensures ∙ c.requires.indexed c.args.node (omega arith) in
+    let q = c.arcs_at-number-items.ensures ∙ c.requires.indexed c.args.node (omega arith) in
     listed_within c.args.end c.args.arcs.now c.args.node _ q c.loop-number.number-index c.loop-number-test.true
 
 pub loop-number-preserved : goal.loop-number-preserved
 loop-number-preserved c =
-    let q = c.arcs-at-number-items.ensures ∙ c.requires.indexed c.args.node (omega arith) in
-    spread_more c.args.end (arcs_of c.args.arcs.now) c.args.node c.loop-number.number-index _ _ c.far-node.result c.loop-number.invariant
+    let q = c.arcs_at-number-items.ensures ∙ c.requires.indexed c.args.node (omega arith) in
+    spread_more c.args.end (arcs_of c.args.arcs.now) c.args.node c.loop-number.number-index _ _ c.far_node.result c.loop-number.invariant
     (omega (arith, ap length q))
-    (listed_far c.args.end c.args.arcs.now c.args.node _ q c.loop-number.number-index c.far-node.result c.far-node.ensures)
+    (listed_far c.args.end c.args.arcs.now c.args.node _ q c.loop-number.number-index c.far_node.result c.far_node.ensures)
     (omega arith)
 
 pub returns : goal.returns
 returns c =
-    let q = c.arcs-at-number-items.ensures ∙ c.requires.indexed c.args.node (omega arith) in
+    let q = c.arcs_at-number-items.ensures ∙ c.requires.indexed c.args.node (omega arith) in
     visited c.args.end (arcs_of c.args.arcs.now) c.args.node c.loop-number.number-index _ _ c.if-not-seen-node.false (omega (arith, ap length q)) c.loop-number.invariant

@@ -12,14 +12,14 @@ use Rattle.history.specs.Readings.{is_reading}
 use Rattle.history.proofs.Stepping.{reading_left}
 use Rattle.history.proofs.running.advance.Goals as goal
 
-pub read-first-requires-in-default-act : goal.read-first-requires-in-default-act
-read-first-requires-in-default-act g c =
-    let first = sym c.step-at.ensures ∙ c.in-Act.is in
+pub read_first-requires-in_default-act : goal.read_first-requires-in_default-act
+read_first-requires-in_default-act g c =
+    let first = sym c.step_at.ensures ∙ c.in-Act.is in
     let left = sym (left_at open_after c.args.steps.now 0 step.Time (step.Act c.in-Act.act) false c.requires.some first) ∙ c.requires.nests in
     record {
       room = c.requires.room;
       some = c.requires.some;
-      reads = ap is_reading first ∙ reading_left c.in-Act.act (drop 1 c.args.steps.now) c.in-default-act.not-Make c.in-default-act.not-Open left;
+      reads = ap is_reading first ∙ reading_left c.in-Act.act (drop 1 c.args.steps.now) c.in_default-act.not-Make c.in_default-act.not-Open left;
       nests = c.requires.nests;
     }
 
@@ -27,13 +27,13 @@ pub returns-in-Make : goal.returns-in-Make
 returns-in-Make g c =
     let m = g.M.Measure in
     let k : Terms (Row m.width) = record { rows = measured m.width m.not_later; row_of_time = m.row_of_time; row_of_arc = m.row_of_arc; means = g.S.Source.means c.args.source.now } in
-    let first = sym c.step-at.ensures ∙ c.in-Act.is ∙ ap step.Act c.in-Make.is in
+    let first = sym c.step_at.ensures ∙ c.in-Act.is ∙ ap step.Act c.in-Make.is in
     record {
       further = omega arith;
       within = omega arith;
       nests = sym (left_at open_after c.args.steps.now 0 step.Time (step.Act (Make c.in-Make.call)) false c.requires.some first) ∙ c.requires.nests;
       ran = runs_more (Goes k) answer_of _ c.args.steps.now c.args.replies.now 0 step.Time (step.Act (Make c.in-Make.call)) _ (Act c.make.result) _ c.requires.some c.requires.room first refl
-          (answers.answer-of c.make.result, refl, (refl, refl, c.make.ensures), refl, refl);
+          (answers.answer_of c.make.result, refl, (refl, refl, c.make.ensures), refl, refl);
       same = refl;
       level = refl;
     }

@@ -40,7 +40,7 @@ loop-reply-init g c =
       refl,
       subst (λ b. Runs k (record { ledger = closed b; tables = t; list = list }) (take 1 c.args.steps.now) (map answer_of (take 1 (set c.args.replies.now 0 reply))) opened) (sym c.trial-trial.ensures.back)
           (runs_more (Goes k) answer_of (record { ledger = closed (block_of c.args.graph.now); tables = t; list = list }) c.args.steps.now c.args.replies.now 0 _ _ _ reply opened c.requires.some c.requires.room c.requires.opens refl (
-            answers.answer-of c.opening.result,
+            answers.answer_of c.opening.result,
             refl,
             opened_acts _ _ _ _ _ _ _ _ _ _ (to_z-of_z w32 c.args.arc c.ranges.arc) (to_z-of_z w32 c.args.ticks c.ranges.ticks) c.trial-trial.ensures.opened
                 (c.opening.ensures ∙ ap (λ o. open_answer (option_map refusal_number o)) c.refusal.ensures),
@@ -59,17 +59,17 @@ loop-reply-preserved g c =
     let trial = c.trial-trial.result in
     let l = under (block_of trial.graph.now) trial.arc trial.earlier trial.refusal in
     let inv = c.loop-reply.invariant in
-    let told = subst (λ f. Reads (terms f) (block_of c.graph.result.now) c.step-at.result t c.loop-reply.list (Some c.in-Some.reply) t' c.read.new.list) inv.4 c.in-Some.ensures.reads in
-    let reads = subst (λ h. Reads k (block_of h) c.step-at.result t c.loop-reply.list (Some c.in-Some.reply) t' c.read.new.list) c.graph.ensures told in
-    let s = answered_step k l t c.loop-reply.list t' c.read.new.list c.step-at.result c.in-Some.reply reads in
-    let next = ap (λ o. by_next open_after o (drop (c.loop-reply.i + 1) c.args.steps.now)) (sym (s.stays true)) ∙ sym (left_at open_after c.args.steps.now c.loop-reply.i Time c.step-at.result true inv.2 (sym c.step-at.ensures)) ∙ inv.3 in (
+    let told = subst (λ f. Reads (terms f) (block_of c.graph.result.now) c.step_at.result t c.loop-reply.list (Some c.in-Some.reply) t' c.read.new.list) inv.4 c.in-Some.ensures.reads in
+    let reads = subst (λ h. Reads k (block_of h) c.step_at.result t c.loop-reply.list (Some c.in-Some.reply) t' c.read.new.list) c.graph.ensures told in
+    let s = answered_step k l t c.loop-reply.list t' c.read.new.list c.step_at.result c.in-Some.reply reads in
+    let next = ap (λ o. by_next open_after o (drop (c.loop-reply.i + 1) c.args.steps.now)) (sym (s.stays true)) ∙ sym (left_at open_after c.args.steps.now c.loop-reply.i Time c.step_at.result true inv.2 (sym c.step_at.ensures)) ∙ inv.3 in (
       length-set _ _ _ ∙ inv.0,
       omega arith,
       some_left open_after c.args.steps.now (c.loop-reply.i + 1) next,
       next,
       c.in-Some.ensures.same ∙ inv.4,
       c.in-Some.ensures.level ∙ inv.5,
-      runs_more (Goes k) answer_of _ c.args.steps.now c.loop-reply.replies c.loop-reply.i Time c.step-at.result _ c.in-Some.reply _ inv.2 inv.0 (sym c.step-at.ensures) inv.6 s.goes,
+      runs_more (Goes k) answer_of _ c.args.steps.now c.loop-reply.replies c.loop-reply.i Time c.step_at.result _ c.in-Some.reply _ inv.2 inv.0 (sym c.step_at.ensures) inv.6 s.goes,
     )
 
 pub returns : goal.returns
@@ -82,17 +82,17 @@ returns g c =
     let trial = c.trial-trial.result in
     let l = under (block_of trial.graph.now) trial.arc trial.earlier trial.refusal in
     let inv = c.loop-reply.invariant in
-    let told = subst (λ f. Reads (terms f) (block_of c.graph.result.now) c.step-at.result t c.loop-reply.list None t' c.read.new.list) inv.4 c.in-default.ensures.reads in
-    let reads = subst (λ h. Reads k (block_of h) c.step-at.result t c.loop-reply.list None t' c.read.new.list) c.graph.ensures told in
-    let e = unanswered_step k l t c.loop-reply.list t' c.read.new.list c.step-at.result (drop (c.loop-reply.i + 1) c.args.steps.now) reads (sym (left_at open_after c.args.steps.now c.loop-reply.i Time c.step-at.result true inv.2 (sym c.step-at.ensures)) ∙ inv.3) in
+    let told = subst (λ f. Reads (terms f) (block_of c.graph.result.now) c.step_at.result t c.loop-reply.list None t' c.read.new.list) inv.4 c.in_default.ensures.reads in
+    let reads = subst (λ h. Reads k (block_of h) c.step_at.result t c.loop-reply.list None t' c.read.new.list) c.graph.ensures told in
+    let e = unanswered_step k l t c.loop-reply.list t' c.read.new.list c.step_at.result (drop (c.loop-reply.i + 1) c.args.steps.now) reads (sym (left_at open_after c.args.steps.now c.loop-reply.i Time c.step_at.result true inv.2 (sym c.step_at.ensures)) ∙ inv.3) in
     let start : Block → State (Row m.width) = λ b. record { ledger = closed b; tables = tables_of m.row c.args.lines.now c.args.arrivals.now c.args.required.now c.args.nodes.now c.args.slacks.now; list = c.args.list.now } in
     let so_far = subst (λ b. Runs k (start b) (take c.loop-reply.i c.args.steps.now) (map answer_of (take c.loop-reply.i c.loop-reply.replies)) (record { ledger = l; tables = t; list = c.loop-reply.list })) c.trial-trial.ensures.back inv.6 in
     record {
       further = omega arith;
       within = omega arith;
       nests = e.nests;
-      ran = runs_more (Goes k) answer_of _ c.args.steps.now c.loop-reply.replies c.loop-reply.i Time (step.Act End) _ (Act Done) _ inv.2 inv.0 (sym c.step-at.ensures ∙ e.ends) so_far
+      ran = runs_more (Goes k) answer_of _ c.args.steps.now c.loop-reply.replies c.loop-reply.i Time (step.Act End) _ (Act Done) _ inv.2 inv.0 (sym c.step_at.ensures ∙ e.ends) so_far
           (answers.done, refl, ended_acts _ _ _ _ _ (search rules), e.tables_are, e.list_is);
-      same = c.in-default.ensures.same ∙ inv.4;
-      level = c.in-default.ensures.level ∙ inv.5;
+      same = c.in_default.ensures.same ∙ inv.4;
+      level = c.in_default.ensures.level ∙ inv.5;
     }

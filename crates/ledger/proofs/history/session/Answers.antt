@@ -29,8 +29,8 @@ loop-i-preserved-in-Read c = (
       (ap shows c.arc.ensures, refl),
 )
 
-pub under-trial-i-requires : goal.under-trial-i-requires
-under-trial-i-requires c =
+pub under_trial-i-requires : goal.under_trial-i-requires
+under_trial-i-requires c =
     let fits-arc : SFits w32 c.in-Open.arc = search rules in
     let fits-ticks : SFits w32 c.in-Open.ticks = search rules in
     record {

@@ -31,7 +31,7 @@ loop-i-preserved c =
 
 pub returns : goal.returns
 returns c =
-    let at-end = then_end _ (drop (c.loop-i.i + 1) c.args.acts.now) c.in-default.not-Read (sym (left_at c.args.acts.now c.loop-i.i _ _ true c.loop-i.invariant.2 refl) ∙ c.loop-i.invariant.3) in
+    let at-end = then_end _ (drop (c.loop-i.i + 1) c.args.acts.now) c.in_default.not-Read (sym (left_at c.args.acts.now c.loop-i.i _ _ true c.loop-i.invariant.2 refl) ∙ c.loop-i.invariant.3) in
     record {
       further = omega arith;
       within = omega arith;
@@ -52,8 +52,8 @@ bounds-replies-i c = omega arith
 pub bounds-replies-i-2 : goal.bounds-replies-i-2
 bounds-replies-i-2 c = omega arith
 
-pub overflow-add-i-in-Read : goal.overflow-add-i-in-Read
-overflow-add-i-in-Read c = omega arith
+pub overflow_add-i-in-Read : goal.overflow_add-i-in-Read
+overflow_add-i-in-Read c = omega arith
 
-pub overflow-add-result : goal.overflow-add-result
-overflow-add-result c = omega arith
+pub overflow_add-result : goal.overflow_add-result
+overflow_add-result c = omega arith

@@ -3,10 +3,10 @@ use Rattle.reader.specs.Fields.{cell_of}
 use Rattle.reader.proofs.Places.{told_more, told_all}
 use Rattle.reader.proofs.fields.read_row.Goals as goal
 
-pub returns-in-default : goal.returns-in-default
-returns-in-default c =
+pub returns-in_default : goal.returns-in_default
+returns-in_default c =
     let inv = c.loop-width.invariant in
-    let all = told_all cell_of c.loop-width.cells _ c.loop-width.width (omega arith) inv.0 (sym inv.1 ∙ c.in-default.ensures) in
+    let all = told_all cell_of c.loop-width.cells _ c.loop-width.width (omega arith) inv.0 (sym inv.1 ∙ c.in_default.ensures) in
     (all.0, omega arith, all.1)
 
 pub loop-width-preserved : goal.loop-width-preserved

@@ -4,9 +4,9 @@ use Rattle.reader.specs.Names.{place}
 use Rattle.reader.proofs.Places.{next_there, next_dropped, none_there}
 use Rattle.reader.proofs.names.find_places.Goals as goal
 
-pub returns-in-default : goal.returns-in-default
-returns-in-default c =
-    let few = none_there (pieces 44 c.args.values.now) c.loop-i.i (sym c.loop-i.invariant.1 ∙ c.in-default.ensures) in
+pub returns-in_default : goal.returns-in_default
+returns-in_default c =
+    let few = none_there (pieces 44 c.args.values.now) c.loop-i.i (sym c.loop-i.invariant.1 ∙ c.in_default.ensures) in
     λ k h g. c.loop-i.invariant.0 k (omega arith) g
 
 pub loop-i-preserved : goal.loop-i-preserved

@@ -2,8 +2,8 @@ use Rattle.std.proofs.Common.{◌∙◌, arith}
 use Rattle.sheet.proofs.Writing.{back_written}
 use Rattle.sheet.proofs.tracing.write_back.Goals as goal
 
-pub overflow-sub-end : goal.overflow-sub-end
-overflow-sub-end c =
+pub overflow_sub-end : goal.overflow_sub-end
+overflow_sub-end c =
     let v = c.loop-arc.invariant in
     (back_written c.args.lines.now c.loop-arc.i c.in-To.arc c.in-To.line c.loop-arc.end c.loop-arc.list c.in-To.ensures (v.0, v.1, v.2)).0
 

@@ -7,8 +7,8 @@ use Rattle.sheet.proofs.trail.count_fore.Goals as goal
 pub loop-line-init : goal.loop-line-init
 loop-line-init c = (omega arith, ahead_none (on_some length (fore_arcs c.args.lines.now c.args.i)))
 
-pub overflow-add-n : goal.overflow-add-n
-overflow-add-n c = let w = fore_rises c.args.lines.now c.loop-line.i _ c.in-To.line c.in-To.ensures in omega (arith, w.1)
+pub overflow_add-n : goal.overflow_add-n
+overflow_add-n c = let w = fore_rises c.args.lines.now c.loop-line.i _ c.in-To.line c.in-To.ensures in omega (arith, w.1)
 
 pub loop-line-preserved : goal.loop-line-preserved
 loop-line-preserved c =

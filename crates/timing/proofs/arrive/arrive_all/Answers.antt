@@ -55,15 +55,15 @@ loop-node-preserved g c =
     let b = block_with (zeros m.width) rows m.row_of_time h in
     let order = g.met.M.Measure.laws.order in
     let l = c.loop-node in
-    let n = c.in-ok-base.field-0 in
+    let n = c.in_ok-base.field-0 in
     let F = brought ms h.arcs rows l.firsts (front m.row l.base l.lines l.times) in
     let s = subst (λ (ks : List ℕ). Stands m.row l.base l.lines l.times (entered ms (started l.node (b.start l.node) ++ flat_map F ks) []) c.arrive.new.lines c.arrive.new.times n)
-    (c.requires.indexed l.node (omega arith)) c.in-ok-base.ensures in
+    (c.requires.indexed l.node (omega arith)) c.in_ok-base.ensures in
     arrived_more m.row ms b (laws_of m.width m.not_later order) h.arcs rows refl c.args.graph.now.rising l.node l.firsts l.lines c.arrive.new.lines l.times c.arrive.new.times l.base n
     (omega arith) (omega (arith, length-set c.args.firsts.now 0 0)) l.invariant s
 
-pub returns-in-err-base : goal.returns-in-err-base
-returns-in-err-base g c =
+pub returns-in_err-base : goal.returns-in_err-base
+returns-in_err-base g c =
     let m = g.M.Measure in
     let ms = measured m.width m.not_later in
     let h = block_of c.args.graph.now in
@@ -73,9 +73,9 @@ returns-in-err-base g c =
     let l = c.loop-node in
     let F = brought ms h.arcs rows l.firsts (front m.row l.base l.lines l.times) in
     let s : length l.lines < l.base + length (coming m.row ms b (laws_of m.width m.not_later order) h.arcs rows refl c.args.graph.now.rising l.node l.firsts l.lines l.times l.base) =
-    subst (λ (ks : List ℕ). length l.lines < l.base + length (entered ms (started l.node (b.start l.node) ++ flat_map F ks) [])) (c.requires.indexed l.node (omega arith)) c.in-err-base.ensures in
+    subst (λ (ks : List ℕ). length l.lines < l.base + length (entered ms (started l.node (b.start l.node) ++ flat_map F ks) [])) (c.requires.indexed l.node (omega arith)) c.in_err-base.ensures in
     let full = arrived_full m.row ms b (laws_of m.width m.not_later order) h.arcs rows refl c.args.graph.now.rising l.node l.firsts l.lines l.times l.base (omega arith) l.invariant s in
-    subst (λ r. Arrives m.row ms b c.arrive.new.lines c.arrive.new.times l.firsts r) (sym c.from-residual.ensures) (omega (arith, full))
+    subst (λ r. Arrives m.row ms b c.arrive.new.lines c.arrive.new.times l.firsts r) (sym c.from_residual.ensures) (omega (arith, full))
 
 pub returns : goal.returns
 returns g c =

@@ -14,11 +14,11 @@ loop-node-init g c =
     let b = block_with (zeros m.width) (map m.row_of_arc c.args.tables.now.ticks) m.row_of_time (block_of c.args.graph.now) in
     required_none m.row (measured m.width m.not_later) b 256 c.args.lines.now c.args.times.now c.args.required.now c.args.firsts.now c.requires.even c.requires.arrived
 
-pub time-row-requires : goal.time-row-requires
-time-row-requires g c κs t e = c.args.graph.now.ended (c.loop-node.node - 1) t (sym c.end.ensures ∙ e)
+pub time_row-requires : goal.time_row-requires
+time_row-requires g c κs t e = c.args.graph.now.ended (c.loop-node.node - 1) t (sym c.end.ensures ∙ e)
 
-pub require-node-requires : goal.require-node-requires
-require-node-requires g c =
+pub require_node-requires : goal.require_node-requires
+require_node-requires g c =
     let m = g.M.Measure in
     let b = block_with (zeros m.width) (map m.row_of_arc c.args.tables.now.ticks) m.row_of_time (block_of c.args.graph.now) in
     let l = c.loop-node in
@@ -27,8 +27,8 @@ require-node-requires g c =
     let z : l.node ≡ v + 1 = omega (arith, c.loop-node-test.true) in
     record {
       node = below;
-      end = c.ask-end-end.ensures ∙ ap ended (c.time-row.ensures ∙ ap (on_some m.row_of_time) c.end.ensures);
-      numbers = c.arcs-at.ensures ∙ c.requires.indexed v below;
+      end = c.ask_end-end.ensures ∙ ap ended (c.time_row.ensures ∙ ap (on_some m.row_of_time) c.end.ensures);
+      numbers = c.arcs_at.ensures ∙ c.requires.indexed v below;
       masked = c.requires.masked;
       ticked = c.requires.ticked;
       sound = c.requires.sound;

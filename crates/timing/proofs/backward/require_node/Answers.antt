@@ -61,8 +61,8 @@ require-asked-requires g c =
           (all_ask_beyond m.width m.row m.not_later order b 256 c.requires.sound laws h.arcs rows refl graph.rising graph.noded firsts c.requires.firsts c.args.node l.i l.lines l.required l.auto.i l.invariant.1);
     }
 
-pub put-required-requires : goal.put-required-requires
-put-required-requires g c =
+pub put_required-requires : goal.put_required-requires
+put_required-requires g c =
     let m = g.M.Measure in
     let ms = measured m.width m.not_later in
     let graph = c.args.graph.now in
@@ -96,10 +96,10 @@ loop-i-preserved g c =
     let asks : told m.row c.require-asked.result ≡ first_least ms (as_list (told m.row c.args.end) ++ flat_map (λ k. as_list (asked_at ms h.arcs rows firsts (marks m.row l.lines l.required) (get_or l.lines j past_line).tag k)) (numbers_at Tail v 0 h.arcs)) =
     subst (λ (ks : List ℕ). told m.row c.require-asked.result ≡ first_least ms (as_list (told m.row c.args.end) ++ flat_map (λ k. as_list (asked_at ms h.arcs rows firsts (marks m.row l.lines l.required) (get_or l.lines j past_line).tag k)) ks)) c.requires.numbers c.require-asked.ensures in (
       omega (arith, c.loop-i-test.true),
-      required_more m.row ms b 256 laws h.arcs rows refl graph.rising graph.noded firsts c.requires.firsts v j l.lines c.put-required.new.lines l.required c.put-required.new.required
+      required_more m.row ms b 256 laws h.arcs rows refl graph.rising graph.noded firsts c.requires.firsts v j l.lines c.put_required.new.lines l.required c.put_required.new.required
           (as_list (told m.row c.args.end)) (told m.row c.require-asked.result) c.requires.node (omega (arith, c.loop-i-test.true)) (omega (arith, l.auto.i, c.loop-i-test.true))
           (omega (arith, stands, count, l.auto.i, c.loop-i-test.true)) (omega (arith, l.auto.lines, l.auto.required, c.requires.even))
-          (subst (λ k. RequiredFrom m.row ms b 256 k l.lines l.required) z l.invariant.1) c.requires.end asks c.put-required.ensures.lines c.put-required.ensures.required,
+          (subst (λ k. RequiredFrom m.row ms b 256 k l.lines l.required) z l.invariant.1) c.requires.end asks c.put_required.ensures.lines c.put_required.ensures.required,
     )
 
 pub returns : goal.returns

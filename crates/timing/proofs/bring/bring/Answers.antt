@@ -11,8 +11,8 @@ use Rattle.timing.specs.Crossings.{meant}
 use Rattle.timing.proofs.Bringing.{tabled_is, brought_live}
 use Rattle.timing.proofs.bring.bring.Goals as goal
 
-pub read-crossing-crossing-requires : goal.read-crossing-crossing-requires
-read-crossing-crossing-requires g c =
+pub read_crossing-crossing-requires : goal.read_crossing-crossing-requires
+read_crossing-crossing-requires g c =
     let live = sym c.in-Some.ensures in
     record {
       below = omega (arith, c.args.graph.now.numbered c.args.number c.in-Some.arc live, c.args.graph.now.room);
@@ -32,7 +32,7 @@ cross-requires g c =
       c.requires.room,
       c.requires.even,
       c.requires.near,
-      subst (λ (h : Crossing (Row m.width)). Bounded m.width 1000000 h.row) (sym c.read-crossing-crossing.ensures) (g.met.M.Measure.laws.arc t (ticks_within t (c.requires.ticked k c.in-Some.arc live))),
+      subst (λ (h : Crossing (Row m.width)). Bounded m.width 1000000 h.row) (sym c.read_crossing-crossing.ensures) (g.met.M.Measure.laws.arc t (ticks_within t (c.requires.ticked k c.in-Some.arc live))),
     )
 
 pub returns : goal.returns
@@ -45,7 +45,7 @@ returns g c =
     let live = sym c.in-Some.ensures in
     let t = c.args.tables.now in
     let arcs = (block_of c.args.graph.now).arcs in
-    let same = c.read-crossing-crossing.ensures ∙ tabled_is ms arcs c.args.firsts.now m.row_of_arc t k e c.requires.masked (omega arith) (omega arith) (omega (arith, c.args.graph.now.numbered k e live, c.args.graph.now.room, t.sized)) in
+    let same = c.read_crossing-crossing.ensures ∙ tabled_is ms arcs c.args.firsts.now m.row_of_arc t k e c.requires.masked (omega arith) (omega arith) (omega (arith, c.args.graph.now.numbered k e live, c.args.graph.now.room, t.sized)) in
     subst (λ (cs : List (sheets.Line (Row w))). Filled m.row c.args.base c.args.lines.now c.args.times.now (entered ms cs (behind m.row c.args.base c.args.count c.args.lines.now c.args.times.now)) c.cross.new.lines c.cross.new.times c.cross.result)
-    (brought_live ms arcs c.args.firsts.now (map m.row_of_arc t.ticks) (front m.row c.args.base c.args.lines.now c.args.times.now) k e (meant m.row c.read-crossing-crossing.result) live same)
+    (brought_live ms arcs c.args.firsts.now (map m.row_of_arc t.ticks) (front m.row c.args.base c.args.lines.now c.args.times.now) k e (meant m.row c.read_crossing-crossing.result) live same)
     c.cross.ensures

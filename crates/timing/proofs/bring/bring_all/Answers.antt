@@ -37,10 +37,10 @@ loop-number-preserved g c =
     let f = joining_more m.row ms F c.args.numbers.now 0 i c.args.base c.args.count c.args.lines.now c.args.times.now c.loop-number.lines c.loop-number.times
     c.bring.new.lines c.bring.new.times c.loop-number.count c.bring.result (omega arith) c.loop-number.invariant c.bring.ensures in
     subst (λ r. Filled m.row c.args.base c.args.lines.now c.args.times.now (joining m.row ms F (i + 1) c.args.numbers.now c.args.base c.args.count c.args.lines.now c.args.times.now) c.bring.new.lines c.bring.new.times r)
-    c.in-ok-count.was f
+    c.in_ok-count.was f
 
-pub returns-in-err-count : goal.returns-in-err-count
-returns-in-err-count g c =
+pub returns-in_err-count : goal.returns-in_err-count
+returns-in_err-count g c =
     let m = g.M.Measure in
     let ms = measured m.width m.not_later in
     let F = brought ms (block_of c.args.graph.now).arcs (map m.row_of_arc c.args.tables.now.ticks) c.args.firsts.now in
@@ -49,9 +49,9 @@ returns-in-err-count g c =
     let f = joining_more m.row ms F c.args.numbers.now 0 i c.args.base c.args.count c.args.lines.now c.args.times.now c.loop-number.lines c.loop-number.times
     c.bring.new.lines c.bring.new.times c.loop-number.count c.bring.result (omega arith) c.loop-number.invariant c.bring.ensures in
     let full : length c.args.lines.now < c.args.base + length t =
-    subst (λ r. Filled m.row c.args.base c.args.lines.now c.args.times.now t c.bring.new.lines c.bring.new.times r) c.in-err-count.was f in
+    subst (λ r. Filled m.row c.args.base c.args.lines.now c.args.times.now t c.bring.new.lines c.bring.new.times r) c.in_err-count.was f in
     subst (λ r. Filled m.row c.args.base c.args.lines.now c.args.times.now (entered ms (flat_map (F (front m.row c.args.base c.args.lines.now c.args.times.now)) c.args.numbers.now) (behind m.row c.args.base c.args.count c.args.lines.now c.args.times.now)) c.bring.new.lines c.bring.new.times r)
-    (sym c.from-residual.ensures) (joining_full m.row ms F c.args.numbers.now (i + 1) c.args.base c.args.count c.args.lines.now c.args.times.now full)
+    (sym c.from_residual.ensures) (joining_full m.row ms F c.args.numbers.now (i + 1) c.args.base c.args.count c.args.lines.now c.args.times.now full)
 
 pub returns : goal.returns
 returns g c =

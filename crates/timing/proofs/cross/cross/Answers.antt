@@ -16,19 +16,19 @@ loop-i-preserved g c =
     let rows = measured m.width m.not_later in
     let t = sofar m.row rows (meant m.row c.args.crossing) c.args.first (c.loop-i.i + 1) c.args.base c.args.count c.args.lines.now c.args.times.now in
     let f = crossing_more m.row rows (meant m.row c.args.crossing) c.args.first c.loop-i.i c.args.base c.args.count c.args.lines.now c.args.times.now c.loop-i.lines c.loop-i.times
-    c.cross-line.new.lines c.cross-line.new.times c.loop-i.count c.cross-line.result (omega arith) (omega arith) (omega arith) c.requires.4 c.loop-i.invariant c.cross-line.ensures in
-    subst (λ r. Filled m.row c.args.base c.args.lines.now c.args.times.now t c.cross-line.new.lines c.cross-line.new.times r) c.in-ok-count.was f
+    c.cross_line.new.lines c.cross_line.new.times c.loop-i.count c.cross_line.result (omega arith) (omega arith) (omega arith) c.requires.4 c.loop-i.invariant c.cross_line.ensures in
+    subst (λ r. Filled m.row c.args.base c.args.lines.now c.args.times.now t c.cross_line.new.lines c.cross_line.new.times r) c.in_ok-count.was f
 
-pub returns-in-err-count : goal.returns-in-err-count
-returns-in-err-count g c =
+pub returns-in_err-count : goal.returns-in_err-count
+returns-in_err-count g c =
     let m = g.M.Measure in
     let rows = measured m.width m.not_later in
     let t = sofar m.row rows (meant m.row c.args.crossing) c.args.first (c.loop-i.i + 1) c.args.base c.args.count c.args.lines.now c.args.times.now in
     let f = crossing_more m.row rows (meant m.row c.args.crossing) c.args.first c.loop-i.i c.args.base c.args.count c.args.lines.now c.args.times.now c.loop-i.lines c.loop-i.times
-    c.cross-line.new.lines c.cross-line.new.times c.loop-i.count c.cross-line.result (omega arith) (omega arith) (omega arith) c.requires.4 c.loop-i.invariant c.cross-line.ensures in
+    c.cross_line.new.lines c.cross_line.new.times c.loop-i.count c.cross_line.result (omega arith) (omega arith) (omega arith) c.requires.4 c.loop-i.invariant c.cross_line.ensures in
     let full : length c.args.lines.now < c.args.base + length t =
-    subst (λ r. Filled m.row c.args.base c.args.lines.now c.args.times.now t c.cross-line.new.lines c.cross-line.new.times r) c.in-err-count.was f in
+    subst (λ r. Filled m.row c.args.base c.args.lines.now c.args.times.now t c.cross_line.new.lines c.cross_line.new.times r) c.in_err-count.was f in
     let all = crossing_full m.row rows (meant m.row c.args.crossing) c.args.first (c.loop-i.i + 1) c.args.last c.args.base c.args.count c.args.lines.now c.args.times.now
     (omega arith) (omega arith) c.requires.1 (omega arith) c.requires.4 full in
-    subst (λ r. Filled m.row c.args.base c.args.lines.now c.args.times.now (sofar m.row rows (meant m.row c.args.crossing) c.args.first c.args.last c.args.base c.args.count c.args.lines.now c.args.times.now) c.cross-line.new.lines c.cross-line.new.times r)
-    (sym c.from-residual.ensures) all
+    subst (λ r. Filled m.row c.args.base c.args.lines.now c.args.times.now (sofar m.row rows (meant m.row c.args.crossing) c.args.first c.args.last c.args.base c.args.count c.args.lines.now c.args.times.now) c.cross_line.new.lines c.cross_line.new.times r)
+    (sym c.from_residual.ensures) all

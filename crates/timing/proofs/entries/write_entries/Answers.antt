@@ -15,13 +15,13 @@ loop-node-preserved g c =
     let ms = measured m.width m.not_later in
     let ts = timeds m.row c.args.lines.now c.args.times.now c.args.required.now in
     let v = c.loop-node.node in
-    let least : told m.row c.least-slack-least.result ≡ node_slack ms v ts =
-    c.least-slack-least.ensures
+    let least : told m.row c.least_slack-least.result ≡ node_slack ms v ts =
+    c.least_slack-least.ensures
     ∙ slack_at m.row ms v c.args.firsts.now c.args.lines.now c.args.times.now c.args.required.now c.requires.times c.requires.required (c.requires.grouped v (omega arith)) in (
-      nodes_more (λ u. entry_of (node_slack ms u ts)) c.loop-node.nodes c.put-entry.new.nodes v (entry_of (told m.row c.least-slack-least.result)) (omega arith) c.put-entry.ensures.nodes
+      nodes_more (λ u. entry_of (node_slack ms u ts)) c.loop-node.nodes c.put_entry.new.nodes v (entry_of (told m.row c.least_slack-least.result)) (omega arith) c.put_entry.ensures.nodes
           (ap entry_of least) c.loop-node.invariant.0,
-      nodes_more (λ u. row_or (zeros m.width) (node_slack ms u ts)) (map m.row c.loop-node.slacks) (map m.row c.put-entry.new.slacks) v
-          (row_or (zeros m.width) (told m.row c.least-slack-least.result)) (omega (arith, length_map c.loop-node.slacks m.row)) c.put-entry.ensures.slacks
+      nodes_more (λ u. row_or (zeros m.width) (node_slack ms u ts)) (map m.row c.loop-node.slacks) (map m.row c.put_entry.new.slacks) v
+          (row_or (zeros m.width) (told m.row c.least_slack-least.result)) (omega (arith, length_map c.loop-node.slacks m.row)) c.put_entry.ensures.slacks
           (ap (row_or (zeros m.width)) least) c.loop-node.invariant.1,
     )
 

@@ -17,8 +17,8 @@ pub loop-number-preserved : goal.loop-number-preserved
 loop-number-preserved c =
     let arcs = (block_of c.args.graph.now).arcs in
     let n = c.loop-number.number in (
-      subst (λ (xs : List ℕ). Gathered Tail (take (n + 1) arcs) xs) (sym (c.add-sets.ensures.outs ∙ ap (λ o. with_sets Tail o c.loop-number.outs) c.arc.ensures)) (gathered_more Tail arcs c.loop-number.outs n (omega arith) c.loop-number.invariant.0),
-      subst (λ (xs : List ℕ). Gathered Head (take (n + 1) arcs) xs) (sym (c.add-sets.ensures.ins ∙ ap (λ o. with_sets Head o c.loop-number.ins) c.arc.ensures)) (gathered_more Head arcs c.loop-number.ins n (omega arith) c.loop-number.invariant.1),
+      subst (λ (xs : List ℕ). Gathered Tail (take (n + 1) arcs) xs) (sym (c.add_sets.ensures.outs ∙ ap (λ o. with_sets Tail o c.loop-number.outs) c.arc.ensures)) (gathered_more Tail arcs c.loop-number.outs n (omega arith) c.loop-number.invariant.0),
+      subst (λ (xs : List ℕ). Gathered Head (take (n + 1) arcs) xs) (sym (c.add_sets.ensures.ins ∙ ap (λ o. with_sets Head o c.loop-number.ins) c.arc.ensures)) (gathered_more Head arcs c.loop-number.ins n (omega arith) c.loop-number.invariant.1),
     )
 
 pub returns : goal.returns

@@ -32,9 +32,9 @@ pub unwrap-time-requires : goal.unwrap-time-requires
 unwrap-time-requires g c =
     let m = g.M.Measure in
     let w = m.width in
-    let y = c.index-required-j.result in
+    let y = c.bounds-required-j.result in
     let x = m.row c.args.crossing.row in
-    let near = c.requires.4 c.find-j.result y c.find-j.ensures.from (omega (arith, c.if-j-last.false, c.find-j.ensures.within)) c.index-required-j.is c.if-not-lines-j.false in
+    let near = c.requires.4 c.find-j.result y c.find-j.ensures.from (omega (arith, c.if-j-last.false, c.find-j.ensures.within)) c.bounds-required-j.is c.if-not-lines-j.false in
     answered m.row c.sum.result (plus w (m.row y) (negated w x)) (c.sum.ensures ∙ asking_sum w 1000000 (m.row y) x (m.row c.opposite.result) (omega arith) near c.requires.5 c.opposite.ensures)
 
 pub returns : goal.returns
@@ -43,15 +43,15 @@ returns g c =
     let w = m.width in
     let ms = measured w m.not_later in
     let r = c.find-j.result in
-    let y = c.index-required-j.result in
+    let y = c.bounds-required-j.result in
     let h = meant m.row c.args.crossing in
     let l = get_or c.args.lines.now r past_line in
     let before_last : r < c.args.last = omega (arith, c.if-j-last.false, c.find-j.ensures.within) in
-    let near = c.requires.4 r y c.find-j.ensures.from before_last c.index-required-j.is c.if-not-lines-j.false in
+    let near = c.requires.4 r y c.find-j.ensures.from before_last c.bounds-required-j.is c.if-not-lines-j.false in
     let time : m.row c.unwrap-time.result ≡ plus w (m.row y) (negated w h.row) =
     answer_is m.row c.sum.result (plus w (m.row y) (negated w h.row)) c.unwrap-time.result
     (c.sum.ensures ∙ asking_sum w 1000000 (m.row y) h.row (m.row c.opposite.result) (omega arith) near c.requires.5 c.opposite.ensures) c.unwrap-time.ensures in
     ap (λ x. Some (record { row = x; arc = c.args.crossing.arc; line = r })) time
     ∙ sym (line_found m.row ms h c.args.tag c.args.first c.args.last r c.args.lines.now c.args.required.now y
-    c.find-j.ensures.from before_last c.requires.1 c.requires.3 c.find-j.ensures.others (c.find-j.ensures.found before_last) c.index-required-j.is
+    c.find-j.ensures.from before_last c.requires.1 c.requires.3 c.find-j.ensures.others (c.find-j.ensures.found before_last) c.bounds-required-j.is
     ∙ ap (λ t. ask_of ms h r (cond t (Some (record { row = m.row y; arc = l.fore_arc; line = l.fore_line })) None)) c.if-not-lines-j.false)

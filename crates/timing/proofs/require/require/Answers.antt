@@ -11,8 +11,8 @@ use Rattle.timing.proofs.require.require.Goals as goal
 pub loop-number-init : goal.loop-number-init
 loop-number-init g c = asks_none (measured g.M.Measure.width g.M.Measure.not_later) (told g.M.Measure.row c.args.end)
 
-pub ask-over-requires : goal.ask-over-requires
-ask-over-requires g c = record {
+pub ask_over-requires : goal.ask_over-requires
+ask_over-requires g c = record {
   firsts = c.requires.firsts;
   masked = c.requires.masked;
   beyond = λ e l. c.requires.beyond c.loop-number.number-index e (omega arith) l;
@@ -28,7 +28,7 @@ loop-number-preserved g c =
     let ms = measured m.width m.not_later in
     let asked = asked_at ms (block_of c.args.graph.now).arcs (map m.row_of_arc c.args.tables.now.ticks) c.args.firsts.now (marks m.row c.args.lines.now c.args.required.now) c.args.tag in
     c.earlier-best.ensures
-    ∙ ap₂ (pick ms) c.loop-number.invariant c.ask-over.ensures
+    ∙ ap₂ (pick ms) c.loop-number.invariant c.ask_over.ensures
     ∙ asks_more ms (as_list (told m.row c.args.end)) asked c.args.numbers.now c.loop-number.number-index (omega arith)
 
 pub returns : goal.returns

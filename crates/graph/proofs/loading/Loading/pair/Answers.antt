@@ -11,8 +11,8 @@ use Rattle.graph.proofs.Marks.{moved_pair}
 use Rattle.graph.proofs.Leading.{paired_keys}
 use Rattle.graph.proofs.loading.Loading.pair.Goals as goal
 
-pub pair-by-requires : goal.pair-by-requires
-pair-by-requires c =
+pub pair_by-requires : goal.pair_by-requires
+pair_by-requires c =
     let l = c.update.new.self in
     record {
       tails = keyed_lists Tail (arcs_of l.graph.arcs) l.tails.keys (l.by_tail c.update.ensures.indexed);
@@ -23,14 +23,14 @@ pub invariant-of-self : goal.invariant-of-self
 invariant-of-self c =
     let l = c.update.new.self in
     let keys = λ (end : ArcEnd). paired_keys end (block_of l.graph) (to_z w32 (of_z w32 c.args.set)) (to_z w32 (of_z w32 c.args.from)) (to_z w32 (of_z w32 c.args.to))
-    (numbered c.pair-by.result) (block_of c.pair-by.new.self) c.pair-by.ensures in
+    (numbered c.pair_by.result) (block_of c.pair_by.new.self) c.pair_by.ensures in
     ((λ i. l.by_tail i ∙ sym (keys Tail)), ((λ i. l.by_head i ∙ sym (keys Head)), tt))
 
 pub returns : goal.returns
 returns c =
     let b = block_of c.update.new.self.graph in
-    let b' = block_of c.pair-by.new.self in
-    let paired = moved_pair b c.args.set _ c.args.from _ c.args.to _ (numbered c.pair-by.result) b'
-    (to_z-of_z w32 c.args.set c.ranges.set) (to_z-of_z w32 c.args.from c.ranges.from) (to_z-of_z w32 c.args.to c.ranges.to) c.pair-by.ensures in
-    subst (λ g. Paired (block_of g) c.args.set c.args.from c.args.to c.number-in.result b') c.update.ensures.graph
-    (subst (λ r. Paired b c.args.set c.args.from c.args.to r b') (sym c.number-in.ensures) paired)
+    let b' = block_of c.pair_by.new.self in
+    let paired = moved_pair b c.args.set _ c.args.from _ c.args.to _ (numbered c.pair_by.result) b'
+    (to_z-of_z w32 c.args.set c.ranges.set) (to_z-of_z w32 c.args.from c.ranges.from) (to_z-of_z w32 c.args.to c.ranges.to) c.pair_by.ensures in
+    subst (λ g. Paired (block_of g) c.args.set c.args.from c.args.to c.number_in.result b') c.update.ensures.graph
+    (subst (λ r. Paired b c.args.set c.args.from c.args.to r b') (sym c.number_in.ensures) paired)

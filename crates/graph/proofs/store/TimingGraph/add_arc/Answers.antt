@@ -17,12 +17,12 @@ invariant-of-self c =
     let rises = put_slot slot_arc g.arcs _ _ (λ _ e. Precedes e.from e.to) g.rising
     (λ e h. subst (λ x. Precedes x.from x.to) (some_same _ e h) (ltb-true _ _ (sym c.if-not-precedes.ensures))) in
     let nodes = put_slot slot_arc g.arcs _ _ (λ _ e. e.to < 256) g.noded
-    (λ e h. subst (λ x. x.to < 256) (some_same _ e h) (node_below (to_z w32 (of_z w32 c.args.to)) (sym c.if-not-is-node-2.ensures))) in
+    (λ e h. subst (λ x. x.to < 256) (some_same _ e h) (node_below (to_z w32 (of_z w32 c.args.to)) (sym c.if-not-is_node-2.ensures))) in
     let trims = put_slot slot_arc g.arcs _ _ (λ _ e. is_ticks e.trim ≡ true) g.trimmed (λ e h. subst (λ x. is_ticks x.trim ≡ true) (some_same _ e h) refl) in
     (omega arith, (numbers, (rises, (nodes, (trims, (g.started, (g.ended, tt)))))))
 
 pub returns : goal.returns
 returns c =
     let e = added _ _ _ _ _ _ _ _ (to_z-of_z w32 c.args.from c.ranges.from) (to_z-of_z w32 c.args.to c.ranges.to)
-    (sym c.if-not-is-node.ensures) (sym c.if-not-is-node-2.ensures) (sym c.if-not-precedes.ensures) c.if-number-eq1024.false in
+    (sym c.if-not-is_node.ensures) (sym c.if-not-is_node-2.ensures) (sym c.if-not-precedes.ensures) c.if-number-eq1024.false in
     record { answer = ap (λ w. w.answer) e; after = ap (λ w. w.after) e }

@@ -18,5 +18,5 @@ invariant-of-self c =
 
 pub returns : goal.returns
 returns c =
-    let e = gone _ _ _ _ _ _ c.in-Some.live _ (to_z-of_z w32 c.args.arc c.ranges.arc) (sym c.if-not-is-arc.ensures) c.in-Some.ensures c.if-live-ne0.false refl in
+    let e = gone _ _ _ _ _ _ c.in-Some.live _ (to_z-of_z w32 c.args.arc c.ranges.arc) (sym c.if-not-is_arc.ensures) c.in-Some.ensures c.if-live-ne0.false refl in
     record { answer = ap (λ w. w.answer) e; after = ap (λ w. w.after) e }

@@ -17,7 +17,7 @@ returns-then-from-to c =
       | then-from-to-via-else-from-to+then-not-reached-to w ↦ inr w.if-not-reached-to.true
     ] in
     paired_in _ _ _ _ _ _ _ _ _ (to_z-of_z w32 _ c.ranges.set) (to_z-of_z w32 _ c.ranges.from) (to_z-of_z w32 _ c.ranges.to)
-    (sym c.if-not-is-set.ensures) (sym c.if-not-is-node.ensures) (sym c.if-not-is-node-2.ensures)
+    (sym c.if-not-is_set.ensures) (sym c.if-not-is_node.ensures) (sym c.if-not-is_node-2.ensures)
     (paired_none (block_of c.args.self.now) (nat_abs (to_z w32 (of_z w32 c.args.set))) u v _ c.args.self.now.rising c.ahead-reached.ensures.all none)
 
 pub invariant-of-self : goal.invariant-of-self
@@ -40,5 +40,5 @@ returns c =
     let S : Sides (arcs_of c.args.self.now.arcs) (nat_abs (to_z w32 (of_z w32 c.args.from))) (nat_abs (to_z w32 (of_z w32 c.args.to))) c.ahead-reached.result c.behind-reaching.result =
     record { ahead = c.ahead-reached.ensures.sound; ahead_all = c.ahead-reached.ensures.all; behind = c.behind-reaching.ensures.sound; behind_all = c.behind-reaching.ensures.all } in
     paired_in _ _ _ _ _ _ _ _ _ (to_z-of_z w32 _ c.ranges.set) (to_z-of_z w32 _ c.ranges.from) (to_z-of_z w32 _ c.ranges.to)
-    (sym c.if-not-is-set.ensures) (sym c.if-not-is-node.ensures) (sym c.if-not-is-node-2.ensures)
+    (sym c.if-not-is_set.ensures) (sym c.if-not-is_node.ensures) (sym c.if-not-is_node-2.ensures)
     (paired_marked (block_of c.args.self.now) _ _ _ _ _ S c.if-from-to.false c.if-not-reached-to.false (arcs_of c.mark.new.arcs) c.mark.ensures)

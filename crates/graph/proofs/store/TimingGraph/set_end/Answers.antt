@@ -10,11 +10,11 @@ pub invariant-of-self : goal.invariant-of-self
 invariant-of-self c =
     let g = c.args.self.now in
     let times = put_slot slot_time g.ends _ _ (λ _ t. is_ticks t ≡ true) g.ended
-    (λ t h. subst (λ x. is_ticks x ≡ true) (some_same _ t h) (sym c.if-not-is-ticks.ensures)) in
+    (λ t h. subst (λ x. is_ticks x ≡ true) (some_same _ t h) (sym c.if-not-is_ticks.ensures)) in
     (g.room, (g.numbered, (g.rising, (g.noded, (g.trimmed, (g.started, (times, tt)))))))
 
 pub returns : goal.returns
 returns c =
     let e = ended _ _ _ _ _ _ _ _ (to_z-of_z w32 c.args.node c.ranges.node) (to_z-of_z w32 c.args.ticks c.ranges.ticks)
-    (sym c.if-not-is-node.ensures) (sym c.if-not-is-ticks.ensures) in
+    (sym c.if-not-is_node.ensures) (sym c.if-not-is_ticks.ensures) in
     record { answer = ap (λ w. w.answer) e; after = ap (λ w. w.after) e }

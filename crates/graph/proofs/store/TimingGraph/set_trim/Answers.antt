@@ -16,11 +16,11 @@ invariant-of-self c =
     (λ e h. subst (λ x. Precedes x.from x.to) (some_same _ e h) (g.rising _ _ live)) in
     let nodes = put_slot slot_arc g.arcs _ _ (λ _ e. e.to < 256) g.noded (λ e h. subst (λ x. x.to < 256) (some_same _ e h) (g.noded _ _ live)) in
     let trims = put_slot slot_arc g.arcs _ _ (λ _ e. is_ticks e.trim ≡ true) g.trimmed
-    (λ e h. subst (λ x. is_ticks x.trim ≡ true) (some_same _ e h) (sym c.if-not-is-ticks.ensures)) in
+    (λ e h. subst (λ x. is_ticks x.trim ≡ true) (some_same _ e h) (sym c.if-not-is_ticks.ensures)) in
     (g.room, (numbers, (rises, (nodes, (trims, (g.started, (g.ended, tt)))))))
 
 pub returns : goal.returns
 returns c =
     let e = retrimmed _ _ _ _ _ _ _ _ c.in-Some.live (to_z-of_z w32 c.args.arc c.ranges.arc) (to_z-of_z w32 c.args.ticks c.ranges.ticks)
-    (sym c.if-not-is-arc.ensures) (sym c.if-not-is-ticks.ensures) c.in-Some.ensures in
+    (sym c.if-not-is_arc.ensures) (sym c.if-not-is_ticks.ensures) c.in-Some.ensures in
     record { answer = ap (λ w. w.answer) e; after = ap (λ w. w.after) e }

@@ -16,14 +16,14 @@ shown_number (Err e) = refl
 pub returns : goal.returns
 returns c =
     let b = block_of c.args.self.now in
-    let fits-earlier : SFits w32 c.trim-of-earlier.result = search rules in
+    let fits-earlier : SFits w32 c.trim_of-earlier.result = search rules in
     let arc = to_z-of_z w32 c.args.arc c.ranges.arc in
     let ticks = to_z-of_z w32 c.args.ticks c.ranges.ticks in
-    let answer : numbered c.set-trim.result ≡ (with_trim b c.args.arc c.args.ticks).answer = c.set-trim.ensures.answer ∙ (λ i. (with_trim b (arc i) (ticks i)).answer) in
-    let opened : Opened b c.args.arc c.args.ticks (block_of c.set-trim.new.self) _ _ c.err-refusal.result = record {
-      set = c.set-trim.ensures.after ∙ (λ i. (with_trim b (arc i) (ticks i)).after);
+    let answer : numbered c.set_trim.result ≡ (with_trim b c.args.arc c.args.ticks).answer = c.set_trim.ensures.answer ∙ (λ i. (with_trim b (arc i) (ticks i)).answer) in
+    let opened : Opened b c.args.arc c.args.ticks (block_of c.set_trim.new.self) _ _ c.err-refusal.result = record {
+      set = c.set_trim.ensures.after ∙ (λ i. (with_trim b (arc i) (ticks i)).after);
       same_arc = arc;
-      kept = to_z-of_z w32 c.trim-of-earlier.result fits-earlier ∙ c.trim-of-earlier.ensures ∙ ap (earlier_of b) arc;
-      shown = ap (option_map refusal_number) c.err-refusal.ensures.value ∙ shown_number c.set-trim.result ∙ ap refusal_in answer;
+      kept = to_z-of_z w32 c.trim_of-earlier.result fits-earlier ∙ c.trim_of-earlier.ensures ∙ ap (earlier_of b) arc;
+      shown = ap (option_map refusal_number) c.err-refusal.ensures.value ∙ shown_number c.set_trim.result ∙ ap refusal_in answer;
     } in
     record { lent = refl; opened = opened; back = ended_back _ _ _ _ _ _ _ opened c.args.self.now.trimmed }

@@ -3,12 +3,12 @@ use Rattle.std.proofs.lemmas.Int.{ints}
 use Rattle.measure.specs.Bounds.{summed_some, summed_none}
 use Rattle.measure.proofs.staged.StagedTicksMeasure.sum.Goals as goal
 
-pub returns-in-err-stages : goal.returns-in-err-stages
-returns-in-err-stages c =
+pub returns-in_err-stages : goal.returns-in_err-stages
+returns-in_err-stages c =
     let a = c.args.self in
     let b = c.args.other in
-    rw c.from-residual-in-err-stages.ensures
-    (summed_none 2 (a.ticks, (a.stages, tt)) (b.ticks, (b.stages, tt)) (λ h. c.in-err-stages.ensures (omega (arith, ints))))
+    rw c.from_residual-in_err-stages.ensures
+    (summed_none 2 (a.ticks, (a.stages, tt)) (b.ticks, (b.stages, tt)) (λ h. c.in_err-stages.ensures (omega (arith, ints))))
 
 pub returns : goal.returns
 returns c =

@@ -8,8 +8,8 @@ returns-then-n-rest c =
     let all = c.before-n.ensures.before in
     ap fields_in c.in-Some.is ∙ cut_none 44 c.in-Some.rest.now (λ k h. all k (omega arith))
 
-pub overflow-add-self : goal.overflow-add-self
-overflow-add-self c = omega (arith, c.before-n.ensures.within, c.before-n.ensures.bound)
+pub overflow_add-self : goal.overflow_add-self
+overflow_add-self c = omega (arith, c.before-n.ensures.within, c.before-n.ensures.bound)
 
 pub returns : goal.returns
 returns c =

@@ -26,12 +26,12 @@ returns-then-not-counts c =
     c.if-not-is_end.ensures c.if-not-counts.ensures
     ∙ ap refused (sym c.refuse-then-not-counts.ensures)
 
-pub returns-then-not-is-empty : goal.returns-then-not-is-empty
-returns-then-not-is-empty c =
+pub returns-then-not-is_empty : goal.returns-then-not-is_empty
+returns-then-not-is_empty c =
     let here = c.in-Some.ensures.cases in
-    bodies.reads_followed c.args.self.now c.next-line.new.self c.in-Some.line.now c.line-number.result here.0.0 (c.line-number.ensures ∙ here.1)
-    c.if-not-is-end.ensures c.if-not-counts.ensures (c.if-not-is-empty.ensures ∙ ap (λ l. eqb (length l) 0) c.rest.ensures)
-    ∙ ap refused (sym c.refuse-then-not-is-empty.ensures)
+    bodies.reads_followed c.args.self.now c.next_line.new.self c.in-Some.line.now c.line-number.result here.0.0 (c.line-number.ensures ∙ here.1)
+    c.if-not-is_end.ensures c.if-not-counts.ensures (c.if-not-is_empty.ensures ∙ ap (λ l. eqb (length l) 0) c.rest.ensures)
+    ∙ ap refused (sym c.refuse-then-not-is_empty.ensures)
 
 pub returns : goal.returns
 returns c =

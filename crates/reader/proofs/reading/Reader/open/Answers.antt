@@ -7,18 +7,18 @@ use Rattle.reader.proofs.Bodies.{opens}
 use Rattle.reader.proofs.Table.{few_names, places_found}
 use Rattle.reader.proofs.reading.Reader.open.Goals as goal
 
-pub returns-in-default-choose : goal.returns-in-default-choose
-returns-in-default-choose c =
+pub returns-in_default-choose : goal.returns-in_default-choose
+returns-in_default-choose c =
     let k = c.args.kind in
     let names = pieces 44 c.in-Some.names.now in
-    let rest = pieces 10 (unread c.next-line.new.self) in
-    opens k c.args.bytes.now c.new-cursor.result c.next-line.new.self c.in-Some.names.now (c.in-ok-check-size.ensures.1 k) c.new-cursor.ensures.rest c.in-Some.ensures.cases.0.0
-    ∙ ap (λ o. headed k o names rest) (sym c.in-default-choose.ensures) ∙ ap refused (sym c.refuse-in-default-choose.ensures)
+    let rest = pieces 10 (unread c.next_line.new.self) in
+    opens k c.args.bytes.now c.new-cursor.result c.next_line.new.self c.in-Some.names.now (c.in_ok-check_size.ensures.1 k) c.new-cursor.ensures.rest c.in-Some.ensures.cases.0.0
+    ∙ ap (λ o. headed k o names rest) (sym c.in_default-choose.ensures) ∙ ap refused (sym c.refuse-in_default-choose.ensures)
 
-pub returns-in-default-read-row : goal.returns-in-default-read-row
-returns-in-default-read-row c =
+pub returns-in_default-read_row : goal.returns-in_default-read_row
+returns-in_default-read_row c =
     let few = few_names c.args.kind (pieces 44 c.in-Some.names.now) (entry c.in-Some-choose.layout) (sym c.in-Some-choose.ensures) in
-    absurd (omega (arith, few, c.in-default-read-row.ensures))
+    absurd (omega (arith, few, c.in_default-read_row.ensures))
 
 pub returns : goal.returns
 returns c =

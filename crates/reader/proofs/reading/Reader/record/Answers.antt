@@ -4,10 +4,10 @@ use Rattle.reader.specs.Pieces.{pieces}
 use Rattle.reader.proofs.Rows.{no_record, record_row}
 use Rattle.reader.proofs.reading.Reader.record.Goals as goal
 
-pub returns-in-err-row : goal.returns-in-err-row
-returns-in-err-row c =
-    let many = c.in-err-row.ensures in
-    c.from-residual.ensures ∙ no_record _ (entry c.args.self.now.layout) (pieces 44 c.args.self.now.names.now) _ (λ e. omega (arith, many, e, c.requires.few, c.requires.wide))
+pub returns-in_err-row : goal.returns-in_err-row
+returns-in_err-row c =
+    let many = c.in_err-row.ensures in
+    c.from_residual.ensures ∙ no_record _ (entry c.args.self.now.layout) (pieces 44 c.args.self.now.names.now) _ (λ e. omega (arith, many, e, c.requires.few, c.requires.wide))
 
 pub returns-then-row-self : goal.returns-then-row-self
 returns-then-row-self c =
