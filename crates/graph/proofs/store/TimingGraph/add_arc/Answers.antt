@@ -9,8 +9,8 @@ use Rattle.graph.proofs.Nodes.{node_below}
 use Rattle.graph.proofs.Accepted.{added}
 use Rattle.graph.proofs.store.TimingGraph.add_arc.Goals as goal
 
-pub invariant-of-self : goal.invariant-of-self
-invariant-of-self c =
+pub invariant_of-self : goal.invariant_of-self
+invariant_of-self c =
     let g = c.args.self.now in
     let room : g.taken + 1 < 1025 = omega arith in
     let numbers = put_slot slot_arc g.arcs _ _ (λ k _. k < g.taken + 1) (λ k e h. let w = g.numbered k e h in omega arith) (λ e h. omega arith) in

@@ -4,8 +4,8 @@ use Rattle.graph.specs.Slots.{arcs_of}
 use Rattle.graph.proofs.Slots.{cleared_keeps, numbered_map, rising_map, nodes_map, trims_map}
 use Rattle.graph.proofs.store.TimingGraph.clear.Goals as goal
 
-pub invariant-of-self : goal.invariant-of-self
-invariant-of-self c =
+pub invariant_of-self : goal.invariant_of-self
+invariant_of-self c =
     let g = c.args.self.now in
     let s = nat_abs (to_z w32 (of_z w32 c.args.set)) in
     let f = cleared s in

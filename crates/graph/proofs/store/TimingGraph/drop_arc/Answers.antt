@@ -7,8 +7,8 @@ use Rattle.graph.proofs.Slots.{put_slot, none_some}
 use Rattle.graph.proofs.Accepted.{gone}
 use Rattle.graph.proofs.store.TimingGraph.drop_arc.Goals as goal
 
-pub invariant-of-self : goal.invariant-of-self
-invariant-of-self c =
+pub invariant_of-self : goal.invariant_of-self
+invariant_of-self c =
     let g = c.args.self.now in
     let numbers = put_slot slot_arc g.arcs _ _ (λ k _. k < g.taken) g.numbered (λ e h. absurd (none_some e h)) in
     let rises = put_slot slot_arc g.arcs _ _ (λ _ e. Precedes e.from e.to) g.rising (λ e h. absurd (none_some e h)) in

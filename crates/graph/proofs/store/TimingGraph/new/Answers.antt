@@ -11,8 +11,8 @@ no_arcs k e h = none_live 1024 k e (ap (λ xs. get_or xs k None) (sym (blank_slo
 no_times : (k : ℕ) (t : ℤ) → get_or (times_of (replicate 256 no_time)) k None ≡ Some t → ⊥
 no_times k t h = none_live 256 k t (ap (λ xs. get_or xs k None) (sym (blank_slots slot_time no_time refl 256)) ∙ h)
 
-pub invariant-of-result : goal.invariant-of-result
-invariant-of-result c = (
+pub invariant_of-result : goal.invariant_of-result
+invariant_of-result c = (
   omega arith,
   (
     (λ k e h. absurd (no_arcs k e h)),

@@ -20,8 +20,8 @@ returns-then-from-to c =
     (sym c.if-not-is_set.ensures) (sym c.if-not-is_node.ensures) (sym c.if-not-is_node-2.ensures)
     (paired_none (block_of c.args.self.now) (nat_abs (to_z w32 (of_z w32 c.args.set))) u v _ c.args.self.now.rising c.ahead-reached.ensures.all none)
 
-pub invariant-of-self : goal.invariant-of-self
-invariant-of-self c =
+pub invariant_of-self : goal.invariant_of-self
+invariant_of-self c =
     let g = c.args.self.now in
     let A = c.ahead-reached.result in
     let B = c.behind-reaching.result in

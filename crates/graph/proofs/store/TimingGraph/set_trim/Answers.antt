@@ -7,8 +7,8 @@ use Rattle.graph.proofs.Slots.{put_slot, some_same}
 use Rattle.graph.proofs.Accepted.{retrimmed}
 use Rattle.graph.proofs.store.TimingGraph.set_trim.Goals as goal
 
-pub invariant-of-self : goal.invariant-of-self
-invariant-of-self c =
+pub invariant_of-self : goal.invariant_of-self
+invariant_of-self c =
     let g = c.args.self.now in
     let live = sym c.in-Some.ensures in
     let numbers = put_slot slot_arc g.arcs _ _ (λ k _. k < g.taken) g.numbered (λ e h. g.numbered _ _ live) in
