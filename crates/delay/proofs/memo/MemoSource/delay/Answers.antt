@@ -11,7 +11,9 @@ invariant_of-self-in-None g c =
     let t = c.in_ok-ticks-in-None.ticks in
     let back : to_z w32 (of_z w32 t) ≡ t = to_z-of_z w32 t (search rules) in
     let e : means c.args.arc ≡ Ok (to_z w32 (of_z w32 t)) = sym c.delay-in-None.ensures.value ∙ c.in_ok-ticks-in-None.was ∙ ap Ok (sym back) in
-    (still_keepable self.kept _ c.args.arc _ c.keep.ensures (sound_keepable means (g.S.Source.sound self.source) _ _ e) self.ok, tt)
+    record {
+      ok = still_keepable self.kept _ c.args.arc _ c.keep.ensures (sound_keepable means (g.S.Source.sound self.source) _ _ e) self.ok;
+    }
 
 pub returns-in_ok-ticks-in-None : goal.returns-in_ok-ticks-in-None
 returns-in_ok-ticks-in-None g c =

@@ -19,7 +19,15 @@ invariant_of-self c =
     let nodes = put_slot slot_arc g.arcs _ _ (λ _ e. e.to < 256) g.noded
     (λ e h. subst (λ x. x.to < 256) (some_same _ e h) (node_below (to_z w32 (of_z w32 c.args.to)) (sym c.if-not-is_node-2.ensures))) in
     let trims = put_slot slot_arc g.arcs _ _ (λ _ e. is_ticks e.trim ≡ true) g.trimmed (λ e h. subst (λ x. is_ticks x.trim ≡ true) (some_same _ e h) refl) in
-    (omega arith, (numbers, (rises, (nodes, (trims, (g.started, (g.ended, tt)))))))
+    record {
+      room = omega arith;
+      numbered = numbers;
+      rising = rises;
+      noded = nodes;
+      trimmed = trims;
+      started = g.started;
+      ended = g.ended;
+    }
 
 pub returns : goal.returns
 returns c =

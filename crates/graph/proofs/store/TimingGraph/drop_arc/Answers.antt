@@ -14,7 +14,15 @@ invariant_of-self c =
     let rises = put_slot slot_arc g.arcs _ _ (λ _ e. Precedes e.from e.to) g.rising (λ e h. absurd (none_some e h)) in
     let nodes = put_slot slot_arc g.arcs _ _ (λ _ e. e.to < 256) g.noded (λ e h. absurd (none_some e h)) in
     let trims = put_slot slot_arc g.arcs _ _ (λ _ e. is_ticks e.trim ≡ true) g.trimmed (λ e h. absurd (none_some e h)) in
-    (g.room, (numbers, (rises, (nodes, (trims, (g.started, (g.ended, tt)))))))
+    record {
+      room = g.room;
+      numbered = numbers;
+      rising = rises;
+      noded = nodes;
+      trimmed = trims;
+      started = g.started;
+      ended = g.ended;
+    }
 
 pub returns : goal.returns
 returns c =

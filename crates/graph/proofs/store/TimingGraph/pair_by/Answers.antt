@@ -27,13 +27,16 @@ invariant_of-self c =
     let B = c.behind-reaching.result in
     let s = nat_abs (to_z w32 (of_z w32 c.args.set)) in
     let f = marked s A B in
-    let k = marked_keeps s A B in (
-      g.room,
-      (
-        numbered_map f k (arcs_of g.arcs) _ c.mark.ensures g.taken g.numbered,
-        (rising_map f k (arcs_of g.arcs) _ c.mark.ensures g.rising, (nodes_map f k (arcs_of g.arcs) _ c.mark.ensures g.noded, (trims_map f k (arcs_of g.arcs) _ c.mark.ensures g.trimmed, (g.started, (g.ended, tt))))),
-      ),
-    )
+    let k = marked_keeps s A B in
+    record {
+      room = g.room;
+      numbered = numbered_map f k (arcs_of g.arcs) _ c.mark.ensures g.taken g.numbered;
+      rising = rising_map f k (arcs_of g.arcs) _ c.mark.ensures g.rising;
+      noded = nodes_map f k (arcs_of g.arcs) _ c.mark.ensures g.noded;
+      trimmed = trims_map f k (arcs_of g.arcs) _ c.mark.ensures g.trimmed;
+      started = g.started;
+      ended = g.ended;
+    }
 
 pub returns : goal.returns
 returns c =

@@ -17,7 +17,15 @@ invariant_of-self c =
     let nodes = put_slot slot_arc g.arcs _ _ (λ _ e. e.to < 256) g.noded (λ e h. subst (λ x. x.to < 256) (some_same _ e h) (g.noded _ _ live)) in
     let trims = put_slot slot_arc g.arcs _ _ (λ _ e. is_ticks e.trim ≡ true) g.trimmed
     (λ e h. subst (λ x. is_ticks x.trim ≡ true) (some_same _ e h) (sym c.if-not-is_ticks.ensures)) in
-    (g.room, (numbers, (rises, (nodes, (trims, (g.started, (g.ended, tt)))))))
+    record {
+      room = g.room;
+      numbered = numbers;
+      rising = rises;
+      noded = nodes;
+      trimmed = trims;
+      started = g.started;
+      ended = g.ended;
+    }
 
 pub returns : goal.returns
 returns c =
