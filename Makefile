@@ -8,26 +8,31 @@ CFLAGS = -O3 -Wall -Wextra
 .PHONY: demo test bench clean
 
 demo:
-	rt check ripotyngue
-	target/bin/ripotyngue demo
+	cd crates/ripotyngue && rt run -- demo
+	mkdir -p target/bin
+	cp crates/ripotyngue/out/ripotyngue target/bin/
 	target/bin/ripotyngue demo-block
 
 test:
 	.ci/run
 
+# rt run proves and builds a program before it runs it
 bench: target/bench/reader_bench
 	target/bench/reader_bench
-	rt check bench_graph
+	mkdir -p target/bin
+	cd crates/bench_graph && rt run
+	cp crates/bench_graph/out/bench_graph target/bin/
 	CC=$(CC) sh bench/pairs.sh
-	rt check bench_timing
+	cd crates/bench_timing && rt run
+	cp crates/bench_timing/out/bench_timing target/bin/
 	CC=$(CC) sh bench/timing.sh
 
-target/bench/reader_bench: bench/reader.c bench/reader.h bench/reader_bench.c target/staticlib/libbench_reader.a
+target/bench/reader_bench: bench/reader.c bench/reader.h bench/reader_bench.c crates/bench_reader/out/libbench_reader.a
 	mkdir -p target/bench
-	$(CC) $(CFLAGS) -o $@ bench/reader.c bench/reader_bench.c target/staticlib/libbench_reader.a
+	$(CC) $(CFLAGS) -o $@ bench/reader.c bench/reader_bench.c crates/bench_reader/out/libbench_reader.a
 
-target/staticlib/libbench_reader.a: $(wildcard crates/reader/src/*.rt crates/bench_reader/src/*.rt)
-	rt staticlib bench_reader
+crates/bench_reader/out/libbench_reader.a: $(wildcard crates/reader/src/*.rt crates/bench_reader/src/*.rt)
+	cd crates/bench_reader && rt lib
 
 clean:
-	rm -rf target
+	rm -rf target crates/*/out

@@ -1,6 +1,6 @@
 #!/bin/sh
 # Prints how long the load of a large false-set file takes here and in plain C, and the ratio, which should be at most 3.
-# Run it from the root of the repository, after `rt check bench_graph`.
+# `make bench` runs it, from the root of the repository, once it has built bench_graph.
 set -e
 program=${1:-target/bin/bench_graph}
 out=$(mktemp -d)

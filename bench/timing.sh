@@ -1,6 +1,6 @@
 #!/bin/sh
 # Prints how long a full timing takes here and in plain C, and the ratio, which should be at most 1.5. Both have to come
-# to the same lines and slacks. Run it from the root of the repository, after `rt check bench_timing`.
+# to the same lines and slacks. `make bench` runs it, from the root of the repository, once it has built bench_timing.
 set -e
 program=${1:-target/bin/bench_timing}
 out=$(mktemp -d)

@@ -1,6 +1,7 @@
 // Arcs, starts, ends and trims.
 use crate::acts::*;
 use graph::{Refusal, TimingGraph};
+use std::test::Fail;
 
 #[test]
 fn a_new_graph_is_empty(rt: HostRuntime) -> Result<(), Fail> {

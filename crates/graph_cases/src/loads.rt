@@ -2,6 +2,7 @@
 use crate::acts::*;
 use graph::{GraphFile, TimingGraph};
 use reader::{FileFault, FileRefusal};
+use std::test::Fail;
 
 #[test]
 fn arcs_are_loaded(rt: HostRuntime) -> Result<(), Fail> {

@@ -1,5 +1,6 @@
 // Pairs of nodes, and the emptying of a set.
 use crate::acts::*;
+use std::test::Fail;
 
 #[test]
 fn a_pair_takes_the_arcs_on_its_paths(rt: HostRuntime) -> Result<(), Fail> {

@@ -1,6 +1,7 @@
 // Trials, and lists in which they do not fit.
 use crate::acts::*;
 use ledger::{Misuse, session};
+use std::test::Fail;
 
 #[test]
 fn a_trial_is_undone(rt: HostRuntime) -> Result<(), Fail> {

@@ -21,11 +21,8 @@ mod tables;
 mod time;
 mod words;
 
+use std::process::ExitCode;
 use std::{env, io};
-
-// The run did not go well, and what went wrong has been said.
-#[derive(Drop)]
-struct Failed;
 
 // Runs the command, and answers whether all went well.
 fn run(rt: &HostRuntime) -> io::Result<bool> {
@@ -49,13 +46,14 @@ fn run(rt: &HostRuntime) -> io::Result<bool> {
     }
 }
 
-fn main(rt: HostRuntime) -> Result<(), Failed> {
+// Where the run did not go well, what went wrong has been said, and the status alone is left to tell.
+fn main(rt: HostRuntime) -> ExitCode {
     match run(&rt) {
-        Ok(true) => Ok(()),
-        Ok(false) => Err(Failed),
+        Ok(true) => ExitCode::SUCCESS,
+        Ok(false) => ExitCode::FAILURE,
         Err(error) => {
             let _ = eprintln!(rt; "ripotyngue: {error}");
-            Err(Failed)
+            ExitCode::FAILURE
         }
     }
 }
