@@ -16,7 +16,7 @@ pub trait TableRow: Copy {
 
 // The ticks that the row of an arc shows.
 fn look_up<R: TableRow>(rows: &[R], arc: u16) -> Option<i64>
-    ensures { result ≡ shown_at (map shows rows.now) arc }
+    ensures { result ≡ shown_at (map R.shows rows.now) arc }
 {
     if !is_arc(arc) {
         return None;

@@ -1,7 +1,7 @@
 -- What a call that is not refused comes to. A primed number is the one that the code passes on.
 use Rattle.std.proofs.Common.{◌≡◌, ℕ, ◌+◌, Bool, true, cond, not, ◌||◌, List, set, ℤ, pos, nat_abs, Some, None, Option, sym, ap, ◌∙◌, subst}
 use Rattle.std.proofs.lemmas.List.{map-set}
-use Rattle.std.proofs.lemmas.Bool.{eq_eqb, ne_eqb, cond-false, not_from_true, or_from}
+use Rattle.std.proofs.lemmas.Bool.{eq-eqb, ne_eqb, cond-false, not_from_true, or_from}
 use Rattle.graph.specs.declared.parts.LiveArc.{LiveArc}
 use Rattle.graph.specs.declared.parts.ArcSlot.{ArcSlot}
 use Rattle.graph.specs.declared.parts.TimeSlot.{TimeSlot}
@@ -48,7 +48,7 @@ module _ (n : ℕ) (slots : List ArcSlot) (ss es : List (Option ℤ)) where
   gone k k' e s p h live out dead = subst (λ x. put_at k' s ≡ without_arc stored x) p
       (put_is k' s
       ∙ ap (λ o. accepted tt (put_arc stored (nat_abs k') o)) dead
-      ∙ ap (λ t. cond t (accepted tt (put_arc stored (nat_abs k') None)) (refused stored 10)) (sym (eq_eqb e.sets 0 out))
+      ∙ ap (λ t. cond t (accepted tt (put_arc stored (nat_abs k') None)) (refused stored 10)) (sym (eq-eqb e.sets 0 out))
       ∙ ap (dropped stored (nat_abs k')) live
       ∙ passed (is_arc k') (refused stored 6) _ h)
 

@@ -1,6 +1,6 @@
 -- Every call leaves a block that keeps what every graph keeps.
 use Rattle.std.proofs.Common.{◌≡◌, ℕ, ◌+◌, ◌<◌, ◌≤◌, Bool, true, false, cond, not, ◌||◌, eqb, List, get_or, set, ℤ, nat_abs, Some, None, Ok, Err, Option, Result, sym, refl, ap, ◌∙◌, subst, ⊎_elim, arith}
-use Rattle.std.proofs.lemmas.Bool.{cases_Bool, cond_both, both_ways, ltb-true, eq_eqb, not-false, or_parts}
+use Rattle.std.proofs.lemmas.Bool.{cases_Bool, cond_both, both_ways, ltb-true, eq-eqb, not-false, or_parts}
 use Rattle.std.proofs.lemmas.Bool.Decides.{when_true, when_false}
 use Rattle.graph.specs.declared.parts.LiveArc.{LiveArc}
 use Rattle.graph.specs.Order.{Precedes, precedes}
@@ -45,7 +45,7 @@ kept_put b n o k new = record {
 
 kept_next : (b : Block) (u v : ℕ) → Kept b → u < v → v < 256 → Kept (next_arc b u v).after
 kept_next b u v k r low = kept_cond (eqb b.taken 1024) _ _ (λ _. k) (λ h. record {
-  room = let ne : b.taken ≡ 1024 → ⊥ = λ e. both_ways _ h (eq_eqb b.taken 1024 e) in let l = k.room in omega (arith, ne);
+  room = let ne : b.taken ≡ 1024 → ⊥ = λ e. both_ways _ h (eq-eqb b.taken 1024 e) in let l = k.room in omega (arith, ne);
   numbers = put_live b.arcs b.taken _ (λ m _. m < b.taken + 1) (λ m e q. let w = k.numbers m e q in omega arith) (λ e q. omega arith);
   rising = put_live b.arcs b.taken _ (λ _ e. Precedes e.from e.to) k.rising (λ e q. subst (λ x. Precedes x.from x.to) (some_same _ e q) r);
   nodes = put_live b.arcs b.taken _ (λ _ e. e.to < 256) k.nodes (λ e q. subst (λ x. x.to < 256) (some_same _ e q) low);

@@ -1,7 +1,7 @@
 -- The computed pair is the pair by paths.
 use Rattle.std.proofs.Common.{◌≡◌, ℕ, zero, suc, ◌+◌, ◌<◌, ◌≤◌, Bool, true, false, cond, not, ◌||◌, eqb, List, [], ◌∷◌, map, length, get_or, ℤ, nat_abs, Some, None, Ok, Err, Decides, MatchBool, Option, Result, sym, refl, ap, ◌∙◌, ⊎_elim, arith}
-use Rattle.std.proofs.lemmas.List.{length_map, ext_get_or, get_or-map}
-use Rattle.std.proofs.lemmas.Bool.{and_parts, and_from, both_ways, cases_Bool, eqb-true, eq_eqb, or_cases, or_right}
+use Rattle.std.proofs.lemmas.List.{length-map, ext_get_or, get_or-map}
+use Rattle.std.proofs.lemmas.Bool.{and_parts, and_from, both_ways, cases_Bool, eqb-true, eq-eqb, or_cases, or_right}
 use Rattle.std.proofs.lemmas.Bool.Decides.{same_from_decides, when_true, when_false}
 use Rattle.graph.specs.declared.parts.LiveArc.{LiveArc}
 use Rattle.graph.specs.Kept.{Live, Rising}
@@ -46,12 +46,12 @@ module _ (arcs : List (Option LiveArc)) where
       (or_cases (eqb u v) (any (leaves_for u (λ w. leads arcs k w v)) arcs) h)
 
   leads_all : (k u v : ℕ) (ns : List ℕ) → length ns ≤ k → Walks arcs u ns v → leads arcs k u v ≡ true
-  leads_all zero u v [] h w = eq_eqb u v w
-  leads_all (suc k) u v [] h w = ap (λ t. t || any (leaves_for u (λ w. leads arcs k w v)) arcs) (eq_eqb u v w)
+  leads_all zero u v [] h w = eq-eqb u v w
+  leads_all (suc k) u v [] h w = ap (λ t. t || any (leaves_for u (λ w. leads arcs k w v)) arcs) (eq-eqb u v w)
   leads_all zero u v (n ∷ ns) h w = absurd (omega arith)
   leads_all (suc k) u v (n ∷ ns) h w =
       or_right (eqb u v) _ (any_at (leaves_for u (λ x. leads arcs k x v)) arcs n w.0 w.1
-      (and_from _ _ (eq_eqb w.0.from u w.2) (leads_all k w.0.to v ns (omega arith) w.3)))
+      (and_from _ _ (eq-eqb w.0.from u w.2) (leads_all k w.0.to v ns (omega arith) w.3)))
 
   -- a path climbs at least one node with each arc
   climbs : Rising arcs → (u : ℕ) (ns : List ℕ) (v : ℕ) → Walks arcs u ns v → u + length ns ≤ v
@@ -114,7 +114,7 @@ pair_in_holds b s u v up in' = go (any (lies_between b.arcs u v) b.arcs) refl
       some h,
       record {
         taken = refl;
-        numbers = length_map b.arcs f;
+        numbers = length-map b.arcs f;
         starts = refl;
         ends = refl;
         arcs = λ n. (lies_between b.arcs u v (get_or b.arcs n None), decides_lies b.arcs up u v n in', slot_at f None (cond_none (lies_between b.arcs u v None)) b.arcs n);
@@ -189,9 +189,9 @@ paired_keys end b s u v r m p =
     inside : (s u v : ℕ) (r : Result Unit ℕ) → PairedIn b s u v r m → map (key_of end) m.arcs ≡ map (key_of end) b.arcs
     inside s u v (Err e) q = ap (λ x. map (key_of end) x.arcs) q.2
     inside s u v (Ok _) q =
-        ext_get_or 256 (map (key_of end) m.arcs) (map (key_of end) b.arcs) (length_map m.arcs (key_of end) ∙ q.1.numbers ∙ sym (length_map b.arcs (key_of end)))
+        ext_get_or 256 (map (key_of end) m.arcs) (map (key_of end) b.arcs) (length-map m.arcs (key_of end) ∙ q.1.numbers ∙ sym (length-map b.arcs (key_of end)))
         (λ n h.
         let x = q.1.arcs n in
-        let hm : n < length m.arcs = omega (arith, length_map m.arcs (key_of end)) in
+        let hm : n < length m.arcs = omega (arith, length-map m.arcs (key_of end)) in
         let hb : n < length b.arcs = omega (arith, q.1.numbers) in
         get_or-map (key_of end) m.arcs n None 256 hm ∙ ap (key_of end) x.2 ∙ key_same s x.0 (arc_at b n) ∙ sym (get_or-map (key_of end) b.arcs n None 256 hb))

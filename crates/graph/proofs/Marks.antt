@@ -1,7 +1,7 @@
 -- The arcs that lie between two swept sides are those on the paths.
 use Rattle.std.proofs.Common.{◌≡◌, ℕ, ◌<◌, ◌≤◌, Bool, true, false, cond, not, ◌&&◌, ◌||◌, ◌⊎◌, List, [], ◌∷◌, ◌++◌, map, length, get_or, ℤ, pos, negsuc, nat_abs, Some, None, Ok, Err, Decides, MatchBool, Option, Result, sym, refl, ap, ◌∙◌, subst, inl, inr, arith}
 use lib.Signed.{le_z}
-use Rattle.std.proofs.lemmas.List.{length_map}
+use Rattle.std.proofs.lemmas.List.{length-map}
 use Rattle.std.proofs.lemmas.Bool.{and_parts, and_from, both_ways, leb-true, not-false}
 use Rattle.graph.specs.declared.parts.LiveArc.{LiveArc}
 use Rattle.graph.specs.Kept.{Rising}
@@ -69,7 +69,7 @@ paired_marked b s from to A B S apart reached arcs' q =
       first_between b.arcs from to r.0 r.1 apart,
       record {
         taken = refl;
-        numbers = ap length q ∙ length_map b.arcs (marked s A B);
+        numbers = ap length q ∙ length-map b.arcs (marked s A B);
         starts = refl;
         ends = refl;
         arcs = marked_is b.arcs from to A B S s arcs' q;

@@ -1,7 +1,7 @@
 -- Reading and writing the stored places.
 use Rattle.std.proofs.Common.{◌≡◌, ℕ, zero, suc, ◌+◌, ◌<◌, ◌≤◌, Bool, true, false, cond, List, [], ◌∷◌, ◌++◌, map, length, get_or, take, drop, set, replicate, pos, Some, None, Option, sym, refl, ap, ◌∙◌, subst, ⊎_elim, arith}
 use Rattle.std.proofs.lemmas.List.Edits.{map_over_more}
-use Rattle.std.proofs.lemmas.List.{get_or_past, get_or-map, map-set, length_map, take_all, drop_all, append-nil}
+use Rattle.std.proofs.lemmas.List.{get_or_past, get_or-map, map-set, length-map, take_all, drop_all, append-nil}
 use Rattle.std.proofs.lemmas.Bool.{cases_lt}
 use Rattle.graph.specs.declared.parts.ArcSlot.{ArcSlot}
 use Rattle.graph.specs.declared.parts.TimeSlot.{TimeSlot}
@@ -88,13 +88,13 @@ pub slots_more : (f : Option LiveArc → Option LiveArc) (xs ys : List ArcSlot) 
 slots_more f xs ys i y h n e k =
     let o = slot_arc (get_or ys i no_arc) in
     let at : o ≡ get_or (arcs_of ys) i o = sym (get_or-map slot_arc ys i no_arc o (omega arith)) in
-    let h' : i < length (arcs_of xs) = omega (arith, length_map xs slot_arc) in
+    let h' : i < length (arcs_of xs) = omega (arith, length-map xs slot_arc) in
     map-set slot_arc ys i y ∙ ap (set (arcs_of ys) i) k ∙ map_over_more f (arcs_of xs) (arcs_of ys) i o h' e at
 
 pub slots_all : (f : Option LiveArc → Option LiveArc) (xs ys : List ArcSlot) (i : ℕ) → length xs ≤ i
     → arcs_of ys ≡ map f (take i (arcs_of xs)) ++ drop i (arcs_of xs) → arcs_of ys ≡ map f (arcs_of xs)
 slots_all f xs ys i h e =
-    let h' : length (arcs_of xs) ≤ i = omega (arith, length_map xs slot_arc) in
+    let h' : length (arcs_of xs) ≤ i = omega (arith, length-map xs slot_arc) in
     e ∙ ap (λ t. map f t ++ drop i (arcs_of xs)) (take_all i (arcs_of xs) h') ∙ ap (λ t. map f (arcs_of xs) ++ t) (drop_all i (arcs_of xs) h') ∙ append-nil (map f (arcs_of xs))
 
 -- f changes nothing of an arc but its sets

@@ -1,6 +1,6 @@
 -- Sweeps over the nodes, and the paths that they follow.
 use Rattle.std.proofs.Common.{◌≡◌, ℕ, zero, suc, ◌+◌, ◌<◌, ◌≤◌, Bool, true, false, ◌⊎◌, List, [], ◌∷◌, ◌++◌, length, get_or, set, replicate, Option, sym, refl, ap, ◌∙◌, subst, inl, inr, ⊎_elim, arith}
-use Rattle.std.proofs.lemmas.List.{get_or-set_same, get_or-set_other, get_or_past, length-set, length-replicate, length_map}
+use Rattle.std.proofs.lemmas.List.{get_or-set_same, get_or-set_other, get_or_past, length-set, length-replicate, length-map}
 use Rattle.std.proofs.lemmas.Bool.{cases_eq, both_ways, cases_lt}
 use Rattle.graph.specs.declared.parts.LiveArc.{LiveArc}
 use Rattle.graph.specs.declared.parts.ArcEnd.{ArcEnd}
@@ -79,7 +79,7 @@ module _ (end : ArcEnd) (slots : List ArcSlot) (node : ℕ) (ns : List ℕ) (q :
   listed_within i h =
       let h' : i < length (numbers_at end node 0 (arcs_of slots)) = omega (arith, ap length q) in
       let x = listed_at end node (arcs_of slots) i h' in
-      omega (arith, live_within (arcs_of slots) _ x.0 x.1, length_map slots slot_arc, ap (λ ms. get_or ms i 0) q)
+      omega (arith, live_within (arcs_of slots) _ x.0 x.1, length-map slots slot_arc, ap (λ ms. get_or ms i 0) q)
 
   pub listed_far : (i u : ℕ) → u ≡ far_at end (get_or slots (get_or ns i 0) no_arc).arc
       → (e : LiveArc) → Live (arcs_of slots) (get_or (numbers_at end node 0 (arcs_of slots)) i 0) e → u ≡ far_at end e

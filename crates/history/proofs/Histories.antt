@@ -2,7 +2,7 @@
 use Rattle.std.proofs.Common.{◌≡◌, ℕ, ◌+◌, ◌-◌, ◌<◌, ◌≤◌, Bool, true, false, not, List, [], ◌∷◌, ◌++◌, map, length, get_or, take, drop, set, Some, None, Option, sym, refl, ap, ◌∙◌, subst, ap₂, ⊎_elim, take-add}
 use lib.Seq.{take-append-le}
 use borrow.Rule.Slice.PartMut.{put_mid, post_of}
-use Rattle.std.proofs.lemmas.List.{take_more, take_more_set, take_all, at_drop_more, at_drop_all, take_at, drop_at, length-take-le, map_append, map_push}
+use Rattle.std.proofs.lemmas.List.{take_more, take_more_set, take_all, at_drop_more, at_drop_all, take_at, drop_at, length-take-le, map-append, map_push}
 use Rattle.std.proofs.lemmas.Bool.{cases_lt, both_ways}
 use Rattle.history.specs.Histories.{RunsBy, nested_by}
 
@@ -45,7 +45,7 @@ module _ {S X A : Type 0} (Goes : S → X → A → S → Type 0) where
         ∙ ap₂ (λ a b. a ++ take n b) (take_at (take i rs) (ws ++ post) i front) (drop_at (take i rs) (ws ++ post) i front)
         ∙ ap (λ a. take i rs ++ a) (take-append-le n ws post q) in
         subst (λ ys. RunsBy Goes s ys (map answer_of (take (i + n) (put_mid i (length rs - i) rs ws))) s') (sym (take-add i n xs))
-        (subst (λ us. RunsBy Goes s (take i xs ++ take n (drop i xs)) us s') (sym (ap (map answer_of) whole ∙ map_append answer_of (take i rs) (take n ws)))
+        (subst (λ us. RunsBy Goes s (take i xs ++ take n (drop i xs)) us s') (sym (ap (map answer_of) whole ∙ map-append answer_of (take i rs) (take n ws)))
         (runs_append s (take i xs) (map answer_of (take i rs)) m (take n (drop i xs)) (map answer_of (take n ws)) s' h g))
 
 module _ {X : Type 0} (after : X → Bool → Option Bool) where

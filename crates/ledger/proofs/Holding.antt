@@ -2,7 +2,7 @@
 use Rattle.std.proofs.Common.{◌≡◌, ℕ, ◌%◌, ◌^◌, ◌<◌, Bool, true, false, cond, not, ◌||◌, eqb, ◌⊎◌, List, [], ◌∷◌, map, get_or, set, ℤ, pos, nat_abs, Some, None, Ok, Err, Option, Result, sym, refl, ap, ◌∙◌, subst, inl, inr, ⊎_elim, arith}
 use native.Mathlib.Nat.{zero-div}
 use Rattle.std.proofs.lemmas.List.{get_or-set_other}
-use Rattle.std.proofs.lemmas.Bool.{cases_Bool, cases_eq, cond_both, both_ways, and_parts, and_from, eq_eqb, ne_eqb, eqb-true, or_cases, or_right}
+use Rattle.std.proofs.lemmas.Bool.{cases_Bool, cases_eq, cond_both, both_ways, and_parts, and_from, eq-eqb, ne_eqb, eqb-true, or_cases, or_right}
 use Rattle.std.proofs.lemmas.Bool.Decides.{when_true, when_false}
 use Rattle.graph.specs.declared.parts.LiveArc.{LiveArc}
 use Rattle.graph.specs.Order.{precedes}
@@ -111,7 +111,7 @@ module _ (b : Block) (g : ℕ) (in' : g < 16) where
       let w = was (arc_at b n) h.0 (sym (slot_at (cleared g) None refl b.arcs n) ∙ h.1) in
       let t = sym (holds_without w.0.sets g s in' l) ∙ ap (λ m. holds m s) w.2 ∙ h.2 in
       let p = and_parts (not (eqb s g)) (holds w.0.sets s) t in
-      ((w.0, w.1, p.1), λ e. both_ways _ (ap not (eq_eqb s g e)) p.0)
+      ((w.0, w.1, p.1), λ e. both_ways _ (ap not (eq-eqb s g e)) p.0)
 
   cleared_on : (s n : ℕ) → s < 16 → (s ≡ g → ⊥) → Holds b s n → Holds (cleared_block b g) s n
   cleared_on s n l apart h = (
@@ -165,7 +165,7 @@ joined_is g s lg ls false o x l (inr h) = absurd (both_ways false refl h.0)
 joined_is g s lg ls true o x l h = (
   set_again x (with_set x.sets g),
   ap (in_set g) l,
-  holds_with x.sets g s lg ls ∙ ⊎_elim (λ q. or_right (eqb s g) (holds x.sets s) q) (λ q. ap (λ t. t || holds x.sets s) (eq_eqb s g q.1)) h,
+  holds_with x.sets g s lg ls ∙ ⊎_elim (λ q. or_right (eqb s g) (holds x.sets s) q) (λ q. ap (λ t. t || holds x.sets s) (eq-eqb s g q.1)) h,
 )
 
 -- the pair (s, from, to) with the arc on a live path

@@ -1,6 +1,6 @@
 -- Which of its outcomes a trace has.
 use Rattle.std.proofs.Common.{◌≡◌, ℕ, Bool, true, false, cond, List, length, get_or, ℤ, nat_abs, None, Ok, Err, Option, Result, sym, ap, ◌∙◌}
-use Rattle.std.proofs.lemmas.List.{length_map}
+use Rattle.std.proofs.lemmas.List.{length-map}
 use Rattle.graph.specs.Ranges.{is_node}
 use Rattle.sheet.specs.declared.line.Line.{Line}
 use Rattle.sheet.specs.declared.node.NodeEntry.{NodeEntry}
@@ -47,7 +47,7 @@ module _
 
   -- the values of a table are as many as their rows
   rows_sized : (r : Bool) → r ≡ sized (length lines) (length arrivals) (length required) (length nodes) (length slacks) → well_sized (tables_of row lines arrivals required nodes slacks) ≡ r
-  rows_sized r e = (λ i. sized (length lines) (length_map arrivals row i) (length_map required row i) (length nodes) (length_map slacks row i)) ∙ sym e
+  rows_sized r e = (λ i. sized (length lines) (length-map arrivals row i) (length-map required row i) (length nodes) (length-map slacks row i)) ∙ sym e
 
   pub has_wrong_length : list ≡ no_arcs size → false ≡ sized (length lines) (length arrivals) (length required) (length nodes) (length slacks) → Has (Err 14) list outcome
   has_wrong_length blank e = has_as (Err 14) list outcome (untraced size 14) (λ i. Err 14, blank) (wrong_sized (tables_of row lines arrivals required nodes slacks) node size (rows_sized false e))

@@ -1,10 +1,10 @@
 -- The written sheet of a block is traced as its definition says.
 use Rattle.std.proofs.Common.{◌≡◌, ℕ, ◌+◌, ◌-◌, ◌<◌, ◌≤◌, true, eqb, leb, List, [], ◌∷◌, ◌++◌, map, length, get_or, replicate, pos, Some, None, Option, sym, refl, ap, ◌∙◌, subst, ap₂, append-nil, arith}
 use Rattle.std.specs.List.{range_with_len}
-use Rattle.std.proofs.lemmas.List.{length-append, length_map, length-replicate}
+use Rattle.std.proofs.lemmas.List.{length-append, length-map, length-replicate}
 use Rattle.std.proofs.lemmas.List.FromFn.{length-range_with_len, get_or-map-range_with_len}
 use Rattle.std.proofs.lemmas.Int.{ints}
-use Rattle.std.proofs.lemmas.Bool.{le-leb, eq_eqb, and_from, cond_true}
+use Rattle.std.proofs.lemmas.Bool.{le-leb, eq-eqb, and_from, cond-true}
 use Rattle.graph.specs.Ranges.{is_node}
 use Rattle.paths.specs.Rows.{Rows, rows}
 use Rattle.paths.specs.Blocks.{Arc, RowBlock, Live, Rising}
@@ -31,14 +31,14 @@ use Rattle.sheet.proofs.Unaltered.{backs_same, fores_same}
 -- ---- the tables' lengths, and a node's entry
 by_nodes_length : {X : Type 0} (f : ℕ → X) → length (by_nodes f) ≡ 256
 unfolding by_nodes
-by_nodes_length f = length_map (range_with_len 0 256) f ∙ length-range_with_len 0 256
+by_nodes_length f = length-map (range_with_len 0 256) f ∙ length-range_with_len 0 256
 
 pub by_nodes_at : {X : Type 0} (f : ℕ → X) (v : ℕ) (d : X) → v < 256 → get_or (by_nodes f) v d ≡ f v
 unfolding by_nodes
 by_nodes_at f v d h = get_or-map-range_with_len f 0 256 v v d h (omega arith)
 
 filled_length : {X Y : Type 0} (f : X → Y) (ts : List X) (size : ℕ) (y : Y) → length ts ≤ size → length (map f ts ++ replicate (size - length ts) y) ≡ size
-filled_length f ts size y h = omega (arith, length-append (map f ts) (replicate (size - length ts) y), length_map ts f, length-replicate (size - length ts) y)
+filled_length f ts size y h = omega (arith, length-append (map f ts) (replicate (size - length ts) y), length-map ts f, length-replicate (size - length ts) y)
 
 module _ {R : Type 0} (m : Rows R) where
   written_sized : (size : ℕ) (ts : List (Timed R)) → length ts ≤ size → size ≤ 4096 → well_sized (written m size ts) ≡ true
@@ -50,7 +50,7 @@ module _ {R : Type 0} (m : Rows R) where
       (by_nodes_length (λ v. entry_of (node_slack m v ts)) i)
       (by_nodes_length (λ v. row_or m.origin (node_slack m v ts)) i))
       ∙ and_from (leb size 4096) _ (le-leb size 4096 k)
-      (and_from (eqb size size) _ (eq_eqb size size refl) (and_from (eqb size size) _ (eq_eqb size size refl) refl))
+      (and_from (eqb size size) _ (eq-eqb size size refl) (and_from (eqb size size) _ (eq-eqb size size refl) refl))
 
 node_in_range : (v : ℕ) → v < 256 → is_node (pos v) ≡ true
 node_in_range v h = grind (arith, ints)
@@ -74,7 +74,7 @@ module _ {R : Type 0} (m : Rows R) (b : RowBlock R) (n : ℕ) (known : Given m b
       omega (
         arith,
         ap length s.2,
-        length_map (p.before ++ p.after) (λ (e : Arc R). e.number),
+        length-map (p.before ++ p.after) (λ (e : Arc R). e.number),
         length-append p.before p.after,
         leads_rise b known.rising p.first p.before v p.reaches,
         leads_rise b known.rising v p.after p.last p.goes_on,
@@ -100,7 +100,7 @@ module _ {R : Type 0} (m : Rows R) (b : RowBlock R) (n : ℕ) (known : Given m b
         let ks = backs (length ts) ts s.line [] ++ fores (length ts) ts s.line in
         let short : length ks ≤ 255 = trace_short (Some s) ks (subst (λ o. Shows m b v (row_of o) (traced ts o)) e (trace_shows_least_lem m b n known v)) in
         ap₂ (joined_at room) before after
-        ∙ cond_true (leb (length ks) room) (traced_outcome room (Some ks)) (untraced room 17) (le-leb (length ks) room (omega arith))
+        ∙ cond-true (leb (length ks) room) (traced_outcome room (Some ks)) (untraced room 17) (le-leb (length ks) room (omega arith))
 
     pub sheet_is_traced : size ≤ 4096 → trace_outcome (written m size (sheet m b n)) (pos v) room ≡ traced_outcome room (trace m v (sheet m b n))
     sheet_is_traced limit =

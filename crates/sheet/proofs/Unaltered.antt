@@ -1,7 +1,7 @@
 -- In the tables of a written sheet, the links lead where the sheet's links do.
 use Rattle.std.proofs.Common.{◌≡◌, ℕ, zero, suc, ◌+◌, ◌-◌, ◌<◌, ◌≤◌, Bool, true, cond, ◌&&◌, eqb, ltb, List, [], ◌∷◌, ◌++◌, map, length, get_or, Some, None, Option, sym, refl, ap, ◌∙◌, subst, ap₂, inl, inr, append_assoc, arith}
-use Rattle.std.proofs.lemmas.List.{length-append, length_map}
-use Rattle.std.proofs.lemmas.Bool.{lt-ltb, eq_eqb, ne_eqb, and_from}
+use Rattle.std.proofs.lemmas.List.{length-append, length-map}
+use Rattle.std.proofs.lemmas.Bool.{lt-ltb, eq-eqb, ne_eqb, and_from}
 use Rattle.measure.specs.Rows.{on_some}
 use Rattle.paths.specs.Rows.{Rows}
 use Rattle.paths.specs.Blocks.{Arc, RowBlock, Live}
@@ -21,7 +21,7 @@ use Rattle.sheet.proofs.Trailing.{back_on, fore_on}
 
 -- ---- links by their marks
 link_ends : (a j : ℕ) (onward : Bool) → a ≡ 1024 → j ≡ 4096 → link_of a j onward ≡ End
-link_ends a j onward p q = ap (λ x. cond x End (cond (ltb a 1024 && onward) (To a j) Broken)) (and_from (eqb a 1024) (eqb j 4096) (eq_eqb a 1024 p) (eq_eqb j 4096 q))
+link_ends a j onward p q = ap (λ x. cond x End (cond (ltb a 1024 && onward) (To a j) Broken)) (and_from (eqb a 1024) (eqb j 4096) (eq-eqb a 1024 p) (eq-eqb j 4096 q))
 
 link_leads : (a j : ℕ) (onward : Bool) → a < 1024 → onward ≡ true → link_of a j onward ≡ To a j
 link_leads a j onward p q =
@@ -43,7 +43,7 @@ module _ {R : Type 0} where
 
   in_table : (ts : List (Timed R)) (rest : List Line) (i : ℕ) (t : Timed R) → At ts i t → ltb i (length (map line_of ts ++ rest)) ≡ true
   in_table ts rest i t e =
-      lt-ltb i (length (map line_of ts ++ rest)) (omega (arith, at_below ts i t e, length-append (map line_of ts) rest, length_map ts line_of))
+      lt-ltb i (length (map line_of ts ++ rest)) (omega (arith, at_below ts i t e, length-append (map line_of ts) rest, length-map ts line_of))
 
   back_marks : (l : sheets.Line R) (o : Option (Told R)) (i : ℕ)
       → link_of (line_with l o).back_arc (line_with l o).back_line (ltb (line_with l o).back_line i) ≡ link_of l.back_arc l.back_line (ltb l.back_line i)

@@ -1,7 +1,7 @@
 -- The arcs of a walk are written over a list, one at a time.
 use Rattle.std.proofs.Common.{◌≡◌, ℕ, ◌+◌, ◌-◌, ◌<◌, ◌≤◌, true, cond, leb, List, [], ◌∷◌, ◌++◌, length, take, drop, set, is_some, Some, None, Ok, Err, Option, sym, refl, ap, ◌∙◌, ap₂, add-zero, arith}
 use Rattle.std.proofs.lemmas.List.{append_assoc, length-append, length-set, drop-set, drop-set-lt, take_more_set, take-append-drop, take_at, drop_at, drop-drop, drop-replicate}
-use Rattle.std.proofs.lemmas.Bool.{le-leb, lt-leb, cond_true, cond-false}
+use Rattle.std.proofs.lemmas.Bool.{le-leb, lt-leb, cond-true, cond-false}
 use Rattle.measure.specs.Rows.{on_some}
 use Rattle.sheet.specs.declared.line.Line.{Line}
 use Rattle.sheet.specs.declared.link.Link.TheVariants.{To}
@@ -89,7 +89,7 @@ module _ (list : List ℕ) (blank : list ≡ no_arcs (length list)) where
       let b : before ≡ length es = cc in
       let a : after ≡ length fs = cc in
       let long : length (es ++ fs) ≡ before + after = omega (arith, length-append es fs) in
-      let is = cond_true (leb (length (es ++ fs)) (length list)) (the_path (length list) (es ++ fs)) (untraced (length list) 17) (le-leb (length (es ++ fs)) (length list) (omega arith)) in (
+      let is = cond-true (leb (length (es ++ fs)) (length list)) (the_path (length list) (es ++ fs)) (untraced (length list) 17) (le-leb (length (es ++ fs)) (length list) (omega arith)) in (
         ap (λ n. Ok (Some n)) (sym long) ∙ ap (λ (z : TraceOutcome). z.answer) (sym is),
         y ∙ ap (filled before fs) x ∙ ap (λ n. filled n fs (es ++ drop n list)) b ∙ in_room es fs (omega arith) ∙ ap (λ (z : TraceOutcome). z.list) (sym is),
       )

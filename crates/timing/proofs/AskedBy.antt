@@ -4,7 +4,7 @@ use lib.Bits.{bit_and, bit_or}
 use Rattle.std.specs.List.{AllByRecursion as All, flat_map}
 use Rattle.std.proofs.lemmas.List.{append-nil, append_assoc, length-append, length-drop, drop-append-le, drop_at, drop-drop, drop-map}
 use Rattle.std.proofs.ByRecursion.{All-drop, All-weaker}
-use Rattle.std.proofs.lemmas.Bool.{eq_eqb, eqb-true}
+use Rattle.std.proofs.lemmas.Bool.{eq-eqb, eqb-true}
 use Rattle.graph.specs.declared.parts.LiveArc.{LiveArc}
 use Rattle.graph.specs.declared.parts.ArcEnd.TheVariants.{Tail}
 use Rattle.graph.specs.Sorting.{segment}
@@ -80,7 +80,7 @@ module _ {R : Type 0} (m : Rows R) (b : RowBlock R) where
         → asked_over m b l x k (timed m b k (ns ++ qs)) ≡ as_list (asked_of m h (pass b l.tag x) k (take (length ns) (map mark (timed m b k (ns ++ qs)))))
     over_own h same k [] qs o a z = over_none k qs (All-weaker (λ (p : sheets.Line R). p.node ≡ x.to → ⊥) Other (λ p f e _. f e) qs z)
     over_own h same k (n ∷ ns) qs o a z =
-        ap (λ s. cond s (cond (eqb n.tag t) (asks m x k own ++ rest) rest) rest) (eq_eqb n.node x.to a.0)
+        ap (λ s. cond s (cond (eqb n.tag t) (asks m x k own ++ rest) rest) rest) (eq-eqb n.node x.to a.0)
         ∙ go (eqb n.tag t) refl (over_own h same (suc k) ns qs o.1 a.1 z)
       where
         t : ℕ

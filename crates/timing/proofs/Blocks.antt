@@ -2,7 +2,7 @@
 use Rattle.std.proofs.Common.{◌≡◌, ℕ, zero, suc, ◌+◌, ◌*◌, ◌<◌, Bool, true, false, cond, not, ◌&&◌, ◌||◌, eqb, List, [], ◌∷◌, ◌++◌, get_or, Some, None, Option, sym, refl, ap, ◌∙◌, ap₂, arith}
 use lib.Bits.{bit_and, bit_or}
 use Rattle.std.specs.List.{AllByRecursion as All, flat_map}
-use Rattle.std.proofs.lemmas.Bool.{eq_eqb, eqb-true}
+use Rattle.std.proofs.lemmas.Bool.{eq-eqb, eqb-true}
 use Rattle.graph.specs.declared.parts.LiveArc.{LiveArc}
 use Rattle.graph.specs.declared.parts.ArcEnd.{ArcEnd}
 use Rattle.graph.specs.declared.parts.ArcEnd.TheVariants.{Tail, Head}
@@ -128,7 +128,7 @@ module _ {R : Type 0} (m : Rows R) (b : RowBlock R) (rows : List R) where
   over_crossed arcs firsts k e i [] q a = refl
   over_crossed arcs firsts k e i (l ∷ ls) q a =
       let x = arc_with m.origin rows k e in
-      ap (λ t. cond t (cond (passes b l.tag x) (sent m b x i l ∷ over m b x (suc i) ls) (over m b x (suc i) ls)) (over m b x (suc i) ls)) (eq_eqb l.node e.from a.0)
+      ap (λ t. cond t (cond (passes b l.tag x) (sent m b x i l ∷ over m b x (suc i) ls) (over m b x (suc i) ls)) (over m b x (suc i) ls)) (eq-eqb l.node e.from a.0)
       ∙ ap (λ r. cond (passes b l.tag x) (sent m b x i l ∷ r) r) (over_crossed arcs firsts k e (suc i) ls q a.1)
       ∙ ap₂ (λ p n. let h : Crossing R = record { arc = k; to = e.to; begins = p; sets = e.sets; ends = n; row = x.row } in
       let rest = crossed m (crossing_of m arcs rows firsts k e) (suc i) ls in

@@ -2,7 +2,7 @@
 use Rattle.std.proofs.Common.{◌≡◌, ℕ, ◌-◌, ◌≤◌, List, [], ◌∷◌, ◌++◌, map, length, take, drop, replicate, sym, refl, ap, ◌∙◌, ap₂, arith}
 use mathlib.Core.List.{map-map}
 use borrow.Rule.Slice.PartMut.{put_mid, same_len_mid}
-use Rattle.std.proofs.lemmas.List.{length_map, length-take-le, length-drop, take_all, map_append}
+use Rattle.std.proofs.lemmas.List.{length-map, length-take-le, length-drop, take_all, map-append}
 use Rattle.std.proofs.lemmas.Slice.{take-put_mid}
 use Rattle.paths.specs.Rows.{Rows}
 use Rattle.paths.specs.Blocks.{RowBlock}
@@ -16,7 +16,7 @@ use Rattle.timing.proofs.Crossed.{put_end}
 
 -- a blank column of values, by its rows
 pub blank_column : {M R : Type 0} (row : M → R) (xs ys : List M) (z : R) → map row ys ≡ replicate (length xs) z → map row ys ≡ replicate (length (map row xs)) z
-blank_column row xs ys z e = e ∙ ap (λ n. replicate n z) (sym (length_map xs row))
+blank_column row xs ys z e = e ∙ ap (λ n. replicate n z) (sym (length-map xs row))
 
 end_length : {X : Type 0} (n : ℕ) (xs : List X) → length (take (length xs - n) (drop n xs)) ≡ length xs - n
 end_length n xs = length-take-le (length xs - n) (drop n xs) (omega (arith, length-drop n xs))
@@ -27,7 +27,7 @@ blanked_end n xs ys z h e = put_end n xs ys h ∙ ap (λ t. take n xs ++ t) (e �
 
 pub blanked_rows : {M R : Type 0} (row : M → R) (n : ℕ) (xs ys : List M) (z : R) → n ≤ length xs → map row ys ≡ replicate (length (take (length xs - n) (drop n xs))) z
     → map row (put_mid n (length xs - n) xs ys) ≡ map row (take n xs) ++ replicate (length xs - n) z
-blanked_rows row n xs ys z h e = ap (map row) (put_end n xs ys h) ∙ map_append row (take n xs) ys ∙ ap (λ t. map row (take n xs) ++ t) (e ∙ ap (λ k. replicate k z) (end_length n xs))
+blanked_rows row n xs ys z h e = ap (map row) (put_end n xs ys h) ∙ map-append row (take n xs) ys ∙ ap (λ t. map row (take n xs) ++ t) (e ∙ ap (λ k. replicate k z) (end_length n xs))
 
 -- the first lines, with all that is known of them
 pub arrived_part : {M R : Type 0} (row : M → R) (m : Rows R) (b : RowBlock R) (ls : List Line) (xs : List M) (firsts : List ℕ) (n : ℕ) → Arrived row m b 256 ls xs firsts n
@@ -69,7 +69,7 @@ views_arrivals row (l ∷ ls) [] e = absurd (omega arith)
 views_arrivals row (l ∷ ls) (x ∷ xs) e = ap (λ ys. row x ∷ ys) (views_arrivals row ls xs (omega arith))
 
 pub sheet_length : {R : Type 0} (m : Rows R) (b : RowBlock R) (n : ℕ) → length (sheets.sheet m b n) ≡ length (sheets.arrivals m b n)
-sheet_length m b n = sym (length_map (sheets.sheet m b n) (λ t. t.line)) ∙ ap length (lines_are m b 0 (sheets.arrivals m b n))
+sheet_length m b n = sym (length-map (sheets.sheet m b n) (λ t. t.line)) ∙ ap length (lines_are m b 0 (sheets.arrivals m b n))
 
 pub arrival_column : {M R : Type 0} (row : M → R) (m : Rows R) (b : RowBlock R) (ls : List Line) (xs : List M) (firsts : List ℕ) (n : ℕ) → Arrived row m b 256 ls xs firsts n
     → map row (take n xs) ≡ map arrival_of (sheets.sheet m b 256)

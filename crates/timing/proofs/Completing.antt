@@ -2,7 +2,7 @@
 use Rattle.std.proofs.Common.{◌≡◌, ℕ, zero, suc, ◌<◌, ◌≤◌, Bool, true, List, [], ◌∷◌, ◌++◌, map, length, get_or, Some, None, Option, sym, refl, ap, ◌∙◌, subst, ap₂, ⊎_elim, arith}
 use mathlib.Core.List.Memᴰ
 use Rattle.std.specs.List.{AllByRecursion as All}
-use Rattle.std.proofs.lemmas.List.{length-append, length_map, take_all, get_or-map}
+use Rattle.std.proofs.lemmas.List.{length-append, length-map, take_all, get_or-map}
 use Rattle.std.proofs.lemmas.Bool.{cases_lt}
 use Rattle.measure.specs.Rows.{Row, Bounded}
 use Rattle.measure.specs.Laws.{Order}
@@ -147,7 +147,7 @@ module _ {R : Type 0} (m : Rows R) (b : RowBlock R) (laws : Laws m) where
       let own = own_nodes m b laws v in
       let from = f v (omega arith) in
       let to = first_next m b laws firsts v n h f in
-      let size : length ls ≡ length ((A ++ L) ++ B) = sym (length_map ls (λ l. l.node)) ∙ ap length e ∙ length_map (arrivals m b n) (λ l. l.node) ∙ ap length k.parts in
+      let size : length ls ≡ length ((A ++ L) ++ B) = sym (length-map ls (λ l. l.node)) ∙ ap length e ∙ length-map (arrivals m b n) (λ l. l.node) ∙ ap length k.parts in
       let at : (i : ℕ) → i < length ls → (get_or ls i past_line).node ≡ node_at ((A ++ L) ++ B) i =
       λ i p. sym (get_or-map (λ l. l.node) ls i past_line 0 p) ∙ ap (λ ns. get_or ns i 0) (e ∙ ap (map (λ l. l.node)) k.parts) in
       record {

@@ -4,7 +4,7 @@ use lib.Bits.{bit_and}
 use borrow.Rule.Slice.PartMut.{put_mid}
 use Rattle.std.specs.List.{AllByRecursion as All}
 use Rattle.std.proofs.lemmas.List.{take_at, drop_at, take_rest, drop_all, drop-drop, append-nil, length-take-le, length-drop, length-append}
-use Rattle.std.proofs.lemmas.Bool.{eq_eqb, ne_eqb}
+use Rattle.std.proofs.lemmas.Bool.{eq-eqb, ne_eqb}
 use Rattle.paths.specs.Rows.{Rows}
 use Rattle.paths.specs.Tags.{apart}
 use Rattle.paths.specs.Sheets as sheets
@@ -112,7 +112,7 @@ module _ {R : Type 0} (m : Rows R) where
   crossed_dropped h i l n = ap (λ t. cond t (crossing_line m h i l ∷ []) []) (ne_eqb (bit_and (crossing_tag h l.tag) h.ends) 0 n)
 
   pub crossed_passed : (h : Crossing R) (i : ℕ) (l : sheets.Line R) → bit_and (crossing_tag h l.tag) h.ends ≡ 0 → crossed m h i (l ∷ []) ≡ crossing_line m h i l ∷ []
-  crossed_passed h i l e = ap (λ t. cond t (crossing_line m h i l ∷ []) []) (eq_eqb (bit_and (crossing_tag h l.tag) h.ends) 0 e)
+  crossed_passed h i l e = ap (λ t. cond t (crossing_line m h i l ∷ []) []) (eq-eqb (bit_and (crossing_tag h l.tag) h.ends) 0 e)
 
 -- ---- one line crosses
 pub some_at : {X : Type 0} (xs : List X) (i : ℕ) → i < length xs → (y : X) × (y ≡ get_or xs i y)

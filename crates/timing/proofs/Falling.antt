@@ -1,7 +1,7 @@
 -- The steps of the required pass, from the last line back.
 use Rattle.std.proofs.Common.{◌≡◌, ℕ, zero, suc, ◌+◌, ◌-◌, ◌<◌, ◌≤◌, Bool, true, List, [], ◌∷◌, ◌++◌, map, length, get_or, drop, set, Some, None, Option, sym, refl, ap, ◌∙◌, subst, ap₂, arith}
 use Rattle.std.specs.List.{AllByRecursion as All, flat_map}
-use Rattle.std.proofs.lemmas.List.{append_assoc, length_map, length-drop, take_all, drop_all, drop_at, drop_more, drop-set, drop-map, map-set, set-get_or, get_or-map, get_or-drop, get_or_append_left}
+use Rattle.std.proofs.lemmas.List.{append_assoc, length-map, length-drop, take_all, drop_all, drop_at, drop_more, drop-set, drop-map, map-set, set-get_or, get_or-map, get_or-drop, get_or_append_left}
 use Rattle.measure.specs.Rows.{Row, Bounded}
 use Rattle.measure.specs.Laws.{Order}
 use Rattle.graph.specs.declared.parts.LiveArc.{LiveArc}
@@ -72,7 +72,7 @@ unasked_views row (l ∷ ls) (x ∷ xs) e = ap (λ t. unasked l ∷ t) (unasked_
 -- ---- the whole table
 module _ {M R : Type 0} (row : M → R) (m : Rows R) (b : RowBlock R) (n : ℕ) where
   pub lines_count : (i : ℕ) (ls : List Line) (ys : List M) → RequiredFrom row m b n i ls ys → length ls ≡ length (arrivals m b n)
-  lines_count i ls ys r = sym (length_map ls unasked) ∙ ap length r.arrived ∙ length_map (arrivals m b n) unasked_of
+  lines_count i ls ys r = sym (length-map ls unasked) ∙ ap length r.arrived ∙ length-map (arrivals m b n) unasked_of
 
   -- before the first step and after the last
   pub required_none : (ls : List Line) (xs ys : List M) (firsts : List ℕ) → length ys ≡ length ls → Arrived row m b n ls xs firsts (length ls) → RequiredFrom row m b n (get_or firsts n 0) ls ys
@@ -81,7 +81,7 @@ module _ {M R : Type 0} (row : M → R) (m : Rows R) (b : RowBlock R) (n : ℕ) 
       let i = get_or firsts n 0 in
       let same : views row ls xs ≡ A = sym (ap₂ (views row) (take_all (length ls) ls (omega arith)) (take_all (length ls) xs (omega (arith, a.even)))) ∙ a.stand in
       let whole : map unasked ls ≡ map unasked_of A = unasked_views row ls xs a.even ∙ ap (map unasked_of) same in
-      let size : length ls ≡ length A = sym (length_map ls unasked) ∙ ap length whole ∙ length_map A unasked_of in
+      let size : length ls ≡ length A = sym (length-map ls unasked) ∙ ap length whole ∙ length-map A unasked_of in
       let at : i ≡ length A = a.firsts_are n (omega arith) in
       let no_lines : drop i ls ≡ [] = drop_all i ls (omega arith) in
       let no_rows : drop i ys ≡ [] = drop_all i ys (omega arith) in
@@ -144,7 +144,7 @@ module _ {M R : Type 0} (row : M → R) (m : Rows R) (b : RowBlock R) (n : ℕ) 
           lines = ap (drop j) new-lines ∙ drop-set ls j (asked_line x o) in_lines
               ∙ ap₂ (λ a cs. a ∷ cs) (asked_written x l o same ∙ ap (line_with l) asks) (r.lines ∙ ap (λ k. map line_of (timed m b k (drop k A))) z)
               ∙ ap (λ cs. map line_of (timed m b j cs)) (sym behind);
-          rows = sym (drop-map row j ys') ∙ ap (drop j) new-rows ∙ drop-set (map row ys) j (row_or m.origin o) (omega (arith, length_map ys row))
+          rows = sym (drop-map row j ys') ∙ ap (drop j) new-rows ∙ drop-set (map row ys) j (row_or m.origin o) (omega (arith, length-map ys row))
               ∙ ap₂ (λ a cs. a ∷ cs) (ap (row_or m.origin) asks) (drop-map row i ys ∙ r.rows ∙ ap (λ k. map (required_of m.origin) (timed m b k (drop k A))) z)
               ∙ ap (λ cs. map (required_of m.origin) (timed m b j cs)) (sym behind);
         }
@@ -181,7 +181,7 @@ module _ {M : Type 0} (w : ℕ) (row : M → Row w) (not_later : Row w → Row w
       let near : All (λ (t : sheets.Timed (Row w)). (z : sheets.Told (Row w)) → t.required ≡ Some z → P z.row) T =
       let s : drop i (sheet ms b n) ≡ T = timed_drop ms b i 0 A ∙ (let o : 0 + i ≡ i = omega arith in ap (λ k. timed ms b k (drop i A)) o) in
       subst (λ ts. All (λ (t : sheets.Timed (Row w)). (z : sheets.Told (Row w)) → t.required ≡ Some z → P z.row) ts) s (All-drop (λ (t : sheets.Timed (Row w)). (z : sheets.Told (Row w)) → t.required ≡ Some z → P z.row) i (sheet ms b n) sheet_near) in
-      let count : length ls - i ≡ length T = sym (length-drop i ls) ∙ ap length r.lines ∙ length_map T line_of in
+      let count : length ls - i ≡ length T = sym (length-drop i ls) ∙ ap length r.lines ∙ length-map T line_of in
       asks_written row ms.origin P T (drop i ys) r.rows near (j - i) y (omega arith)
       (q ∙ ap (λ k. get_or ys k y) (sym z) ∙ sym (get_or-drop i ys (j - i) y))
       (ap (λ (xs : List Line). (get_or xs (j - i) past_line).required) (sym r.lines) ∙ ap (λ (x : Line). x.required) (get_or-drop i ls (j - i) past_line ∙ ap (λ k. get_or ls k past_line) z) ∙ f)

@@ -2,7 +2,7 @@
 use Rattle.std.proofs.Common.{◌≡◌, ℕ, zero, suc, ◌+◌, ◌-◌, ◌/◌, ◌%◌, ◌^◌, ◌<◌, ◌≤◌, Bool, true, false, cond, not, ◌&&◌, ◌||◌, eqb, List, [], ◌∷◌, length, get_or, take, set, Some, None, Option, sym, refl, ap, ◌∙◌, ap₂, ⊎_elim, pow-suc, add-one, arith}
 use lib.Bits.{bit_and, bit_or, and_le_l}
 use Rattle.std.proofs.lemmas.List.{get_or-set_same, get_or-set_other}
-use Rattle.std.proofs.lemmas.Bool.{eq_eqb, ne_eqb, cases_eq}
+use Rattle.std.proofs.lemmas.Bool.{eq-eqb, ne_eqb, cases_eq}
 use Rattle.graph.specs.declared.parts.LiveArc.{LiveArc}
 use Rattle.graph.specs.declared.parts.ArcEnd.{ArcEnd}
 use Rattle.graph.specs.declared.parts.ArcEnd.TheVariants.{Tail, Head}
@@ -89,7 +89,7 @@ gathered_more end os masks n s g v i l =
         ap (λ u. has (get_or (set masks k y) u 0) i) q
         ∙ ap (λ x. has x i) (get_or-set_same masks k y 0 (omega (arith, q)))
         ∙ has_or i (get_or masks k 0) e.sets
-        ∙ ap₂ (λ p r. p || r) (ap (λ u. has (get_or masks u 0) i) (sym q) ∙ g v i l) (sym (and_true (has e.sets i)) ∙ ap (λ t. has e.sets i && t) (sym (eq_eqb k v (sym q)))))
+        ∙ ap₂ (λ p r. p || r) (ap (λ u. has (get_or masks u 0) i) (sym q) ∙ g v i l) (sym (and_true (has e.sets i)) ∙ ap (λ t. has e.sets i && t) (sym (eq-eqb k v (sym q)))))
         (λ ne.
         ap (λ x. has x i) (get_or-set_other masks k v y 0 ne)
         ∙ g v i l

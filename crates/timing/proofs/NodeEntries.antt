@@ -3,7 +3,7 @@ use Rattle.std.proofs.Common.{◌≡◌, ℕ, zero, suc, ◌+◌, ◌-◌, ◌<�
 use Rattle.std.specs.List.{range_with_len}
 use Rattle.std.proofs.lemmas.List.{take_more_set, take_all}
 use Rattle.std.proofs.lemmas.List.FromFn.{map-range_with_len_more}
-use Rattle.std.proofs.lemmas.Bool.{eq_eqb, ne_eqb}
+use Rattle.std.proofs.lemmas.Bool.{eq-eqb, ne_eqb}
 use Rattle.paths.specs.Rows.{Rows}
 use Rattle.paths.specs.Graphs.{node_count}
 use Rattle.paths.specs.Sheets.{slack_of, slacks, first_least, node_slack}
@@ -36,7 +36,7 @@ module _ {M R : Type 0} (row : M → R) (m : Rows R) where
       let rest = slacks m v (suc k) ts in
       let z : k ≡ k + 0 = omega arith in
       let s : suc k + 0 ≡ suc (k + 0) = omega arith in
-      ap (λ c. cond c (slack_of m k t t.required ++ rest) rest) (eq_eqb l.node v (own 0 (omega arith) (omega arith)))
+      ap (λ c. cond c (slack_of m k t t.required ++ rest) rest) (eq-eqb l.node v (own 0 (omega arith) (omega arith)))
       ∙ ap₂ (λ i c. slack_of m i t t.required ++ c) z
       (own_slacks v (suc k) zero n ls xs ys (omega arith) (omega arith) (omega arith) (λ i a b. own (suc i) (omega arith) (omega arith))
       (λ i b e. let o = other (suc i) (omega arith) e in (omega arith, omega (arith, o)))

@@ -1,6 +1,6 @@
 -- The outcome of a timing, case by case.
 use Rattle.std.proofs.Common.{◌≡◌, ℕ, true, false, cond, List, length, replicate, Ok, Err, Result, sym, ap, ◌∙◌, arith}
-use Rattle.std.proofs.lemmas.List.{length_map}
+use Rattle.std.proofs.lemmas.List.{length-map}
 use Rattle.std.proofs.lemmas.Bool.{lt-ltb, le-ltb}
 use Rattle.paths.specs.Rows.{Rows}
 use Rattle.paths.specs.Blocks.{RowBlock}
@@ -21,14 +21,14 @@ module _ {M R : Type 0} (row : M → R) where
   -- the lengths of the rows are those of the values
   pub sizes_are : (ls : List Line) (xs ys : List M) (ns : List NodeEntry) (ss : List M)
       → well_sized (tables_of row ls xs ys ns ss) ≡ sized (length ls) (length xs) (length ys) (length ns) (length ss)
-  sizes_are ls xs ys ns ss = λ i. sized (length ls) (length_map xs row i) (length_map ys row i) (length ns) (length_map ss row i)
+  sizes_are ls xs ys ns ss = λ i. sized (length ls) (length-map xs row i) (length-map ys row i) (length ns) (length-map ss row i)
 
   -- blank tables of the same lengths are the same
   pub same_blanks : (z : R) (ls ls' : List Line) (xs xs' ys ys' : List M) (ns ns' : List NodeEntry) (ss ss' : List M)
       → length ls' ≡ length ls → length xs' ≡ length xs → length ys' ≡ length ys → length ns' ≡ length ns → length ss' ≡ length ss
       → blanked z (tables_of row ls' xs' ys' ns' ss') ≡ blanked z (tables_of row ls xs ys ns ss)
   same_blanks z ls ls' xs xs' ys ys' ns ns' ss ss' a b c d e =
-      let mapped-length = λ (us us' : List M) (q : length us' ≡ length us). length_map us' row ∙ q ∙ sym (length_map us row) in
+      let mapped-length = λ (us us' : List M) (q : length us' ≡ length us). length-map us' row ∙ q ∙ sym (length-map us row) in
       λ i. record {
         lines = replicate (a i) blank_line;
         arrivals = replicate (mapped-length xs xs' b i) z;

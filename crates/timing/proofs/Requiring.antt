@@ -5,7 +5,7 @@ use Rattle.paths.specs.Tags.{apart}
 use Rattle.timing.specs.Crossings.{crossing_tag}
 use Rattle.std.specs.List.{flat_map}
 use Rattle.std.proofs.lemmas.List.{take_more, append-nil, append_assoc, get_or-drop, length-drop}
-use Rattle.std.proofs.lemmas.Bool.{eq_eqb, ne_eqb}
+use Rattle.std.proofs.lemmas.Bool.{eq-eqb, ne_eqb}
 use Rattle.paths.specs.Rows.{Rows}
 use Rattle.paths.specs.Sheets as sheets
 use Rattle.paths.specs.Sheets.{least, first_least}
@@ -38,7 +38,7 @@ module _ {M R : Type 0} (row : M → R) (m : Rows R) where
   asked_found h t j (suc n) r (x ∷ ls) [] y b l e f q i = absurd (omega arith)
   asked_found h t j (suc n) zero (x ∷ ls) (z ∷ ys) y b l e f q i =
       let o : j ≡ j + 0 = omega arith in
-      ap (λ c. cond c (ask_of m h j (mark_of row x z).required) (asked_of m h t (suc j) (take n (marks row ls ys)))) (eq_eqb x.tag t q)
+      ap (λ c. cond c (ask_of m h j (mark_of row x z).required) (asked_of m h t (suc j) (take n (marks row ls ys)))) (eq-eqb x.tag t q)
       ∙ ap₂ (λ k w. ask_of m h k (mark_of row x w).required) o (sym i)
   asked_found h t j (suc n) (suc r) (x ∷ ls) (z ∷ ys) y b l e f q i =
       let o : suc j + r ≡ j + suc r = omega arith in
@@ -98,7 +98,7 @@ module _ {R : Type 0} (m : Rows R) (firsts : List ℕ) (xs : List (Mark R)) (s :
       → o ≡ asked_of m h (crossing_tag h s) (get_or firsts to 0) (segment (get_or firsts to 0) (get_or firsts (to + 1) 0 - get_or firsts to 0) xs) → o ≡ asked_crossing to h
   crossing_passed to h o e q =
       q ∙ ap (λ c. cond c (asked_of m h (crossing_tag h s) (get_or firsts to 0) (segment (get_or firsts to 0) (get_or firsts (to + 1) 0 - get_or firsts to 0) xs)) None)
-      (sym (eq_eqb (bit_and (crossing_tag h s) h.ends) 0 e))
+      (sym (eq-eqb (bit_and (crossing_tag h s) h.ends) 0 e))
 
   pub crossing_dropped : (to : ℕ) (h : Crossing R) → (bit_and (crossing_tag h s) h.ends ≡ 0 → ⊥) → None ≡ asked_crossing to h
   crossing_dropped to h n =

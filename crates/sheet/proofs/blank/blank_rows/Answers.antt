@@ -1,10 +1,10 @@
 use Rattle.std.proofs.Common.{◌≡◌, ℕ, ◌+◌, ◌<◌, List, [], ◌∷◌, ◌++◌, map, length, take, set, replicate, sym, ap, ◌∙◌, ap₂, arith}
-use Rattle.std.proofs.lemmas.List.{take_more_set, take_all, replicate_more, map_append}
+use Rattle.std.proofs.lemmas.List.{take_more_set, take_all, replicate_more, map-append}
 use Rattle.measure.specs.Rows.{zeros}
 use Rattle.sheet.proofs.blank.blank_rows.Goals as goal
 
 blank_more : {M R : Type 0} (row : M → R) (xs : List M) (i : ℕ) (y : M) (z : R) → i < length xs → row y ≡ z → map row (take i xs) ≡ replicate i z → map row (take (i + 1) (set xs i y)) ≡ replicate (i + 1) z
-blank_more row xs i y z h q p = ap (map row) (take_more_set xs i y h) ∙ map_append row (take i xs) (y ∷ []) ∙ ap₂ (λ a b. a ++ b ∷ []) p q ∙ replicate_more i z
+blank_more row xs i y z h q p = ap (map row) (take_more_set xs i y h) ∙ map-append row (take i xs) (y ∷ []) ∙ ap₂ (λ a b. a ++ b ∷ []) p q ∙ replicate_more i z
 
 pub loop-value-preserved : goal.loop-value-preserved
 loop-value-preserved g c =

@@ -1,5 +1,5 @@
 use Rattle.std.proofs.Common.{◌≡◌, map, ap, ◌∙◌, arith}
-use Rattle.std.proofs.lemmas.List.{length_map}
+use Rattle.std.proofs.lemmas.List.{length-map}
 use Rattle.measure.specs.Rows.{zeros}
 use Rattle.paths.specs.Rows.{rows as measured}
 use Rattle.paths.specs.Sheets.{node_slack}
@@ -21,7 +21,7 @@ loop-node-preserved g c =
       nodes_more (λ u. entry_of (node_slack ms u ts)) c.loop-node.nodes c.put_entry.new.nodes v (entry_of (told m.row c.least_slack-least.result)) (omega arith) c.put_entry.ensures.nodes
           (ap entry_of least) c.loop-node.invariant.0,
       nodes_more (λ u. row_or (zeros m.width) (node_slack ms u ts)) (map m.row c.loop-node.slacks) (map m.row c.put_entry.new.slacks) v
-          (row_or (zeros m.width) (told m.row c.least_slack-least.result)) (omega (arith, length_map c.loop-node.slacks m.row)) c.put_entry.ensures.slacks
+          (row_or (zeros m.width) (told m.row c.least_slack-least.result)) (omega (arith, length-map c.loop-node.slacks m.row)) c.put_entry.ensures.slacks
           (ap (row_or (zeros m.width)) least) c.loop-node.invariant.1,
     )
 
@@ -32,6 +32,6 @@ returns g c =
     let ts = timeds m.row c.args.lines.now c.args.times.now c.args.required.now in
     record {
       nodes = nodes_all (λ u. entry_of (node_slack ms u ts)) c.loop-node.nodes c.loop-node.node (omega arith) (omega arith) c.loop-node.invariant.0;
-      slacks = nodes_all (λ u. row_or (zeros m.width) (node_slack ms u ts)) (map m.row c.loop-node.slacks) c.loop-node.node (omega arith) (omega (arith, length_map c.loop-node.slacks m.row))
+      slacks = nodes_all (λ u. row_or (zeros m.width) (node_slack ms u ts)) (map m.row c.loop-node.slacks) c.loop-node.node (omega arith) (omega (arith, length-map c.loop-node.slacks m.row))
           c.loop-node.invariant.1;
     }

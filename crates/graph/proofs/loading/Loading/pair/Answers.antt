@@ -19,12 +19,15 @@ pair_by-requires c =
       heads = keyed_lists Head (arcs_of l.graph.arcs) l.heads.keys (l.by_head c.update.ensures.indexed);
     }
 
-pub invariant-of-self : goal.invariant-of-self
-invariant-of-self c =
+pub invariant_of-self : goal.invariant_of-self
+invariant_of-self c =
     let l = c.update.new.self in
     let keys = λ (end : ArcEnd). paired_keys end (block_of l.graph) (to_z w32 (of_z w32 c.args.set)) (to_z w32 (of_z w32 c.args.from)) (to_z w32 (of_z w32 c.args.to))
     (numbered c.pair_by.result) (block_of c.pair_by.new.self) c.pair_by.ensures in
-    ((λ i. l.by_tail i ∙ sym (keys Tail)), ((λ i. l.by_head i ∙ sym (keys Head)), tt))
+    record {
+      by_tail = (λ i. l.by_tail i ∙ sym (keys Tail));
+      by_head = (λ i. l.by_head i ∙ sym (keys Head));
+    }
 
 pub returns : goal.returns
 returns c =

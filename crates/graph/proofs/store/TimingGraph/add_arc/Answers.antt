@@ -9,8 +9,8 @@ use Rattle.graph.proofs.Nodes.{node_below}
 use Rattle.graph.proofs.Accepted.{added}
 use Rattle.graph.proofs.store.TimingGraph.add_arc.Goals as goal
 
-pub invariant-of-self : goal.invariant-of-self
-invariant-of-self c =
+pub invariant_of-self : goal.invariant_of-self
+invariant_of-self c =
     let g = c.args.self.now in
     let room : g.taken + 1 < 1025 = omega arith in
     let numbers = put_slot slot_arc g.arcs _ _ (λ k _. k < g.taken + 1) (λ k e h. let w = g.numbered k e h in omega arith) (λ e h. omega arith) in
@@ -19,7 +19,15 @@ invariant-of-self c =
     let nodes = put_slot slot_arc g.arcs _ _ (λ _ e. e.to < 256) g.noded
     (λ e h. subst (λ x. x.to < 256) (some_same _ e h) (node_below (to_z w32 (of_z w32 c.args.to)) (sym c.if-not-is_node-2.ensures))) in
     let trims = put_slot slot_arc g.arcs _ _ (λ _ e. is_ticks e.trim ≡ true) g.trimmed (λ e h. subst (λ x. is_ticks x.trim ≡ true) (some_same _ e h) refl) in
-    (omega arith, (numbers, (rises, (nodes, (trims, (g.started, (g.ended, tt)))))))
+    record {
+      room = omega arith;
+      numbered = numbers;
+      rising = rises;
+      noded = nodes;
+      trimmed = trims;
+      started = g.started;
+      ended = g.ended;
+    }
 
 pub returns : goal.returns
 returns c =

@@ -7,14 +7,22 @@ use Rattle.graph.proofs.Slots.{put_slot, none_some}
 use Rattle.graph.proofs.Accepted.{gone}
 use Rattle.graph.proofs.store.TimingGraph.drop_arc.Goals as goal
 
-pub invariant-of-self : goal.invariant-of-self
-invariant-of-self c =
+pub invariant_of-self : goal.invariant_of-self
+invariant_of-self c =
     let g = c.args.self.now in
     let numbers = put_slot slot_arc g.arcs _ _ (λ k _. k < g.taken) g.numbered (λ e h. absurd (none_some e h)) in
     let rises = put_slot slot_arc g.arcs _ _ (λ _ e. Precedes e.from e.to) g.rising (λ e h. absurd (none_some e h)) in
     let nodes = put_slot slot_arc g.arcs _ _ (λ _ e. e.to < 256) g.noded (λ e h. absurd (none_some e h)) in
     let trims = put_slot slot_arc g.arcs _ _ (λ _ e. is_ticks e.trim ≡ true) g.trimmed (λ e h. absurd (none_some e h)) in
-    (g.room, (numbers, (rises, (nodes, (trims, (g.started, (g.ended, tt)))))))
+    record {
+      room = g.room;
+      numbered = numbers;
+      rising = rises;
+      noded = nodes;
+      trimmed = trims;
+      started = g.started;
+      ended = g.ended;
+    }
 
 pub returns : goal.returns
 returns c =

@@ -11,20 +11,16 @@ no_arcs k e h = none_live 1024 k e (ap (λ xs. get_or xs k None) (sym (blank_slo
 no_times : (k : ℕ) (t : ℤ) → get_or (times_of (replicate 256 no_time)) k None ≡ Some t → ⊥
 no_times k t h = none_live 256 k t (ap (λ xs. get_or xs k None) (sym (blank_slots slot_time no_time refl 256)) ∙ h)
 
-pub invariant-of-result : goal.invariant-of-result
-invariant-of-result c = (
-  omega arith,
-  (
-    (λ k e h. absurd (no_arcs k e h)),
-    (
-      (λ k e h. absurd (no_arcs k e h)),
-      (
-        (λ k e h. absurd (no_arcs k e h)),
-        ((λ k e h. absurd (no_arcs k e h)), ((λ k t h. absurd (no_times k t h)), ((λ k t h. absurd (no_times k t h)), tt))),
-      ),
-    ),
-  ),
-)
+pub invariant_of-result : goal.invariant_of-result
+invariant_of-result c = record {
+      room = omega arith;
+      numbered = (λ k e h. absurd (no_arcs k e h));
+      rising = (λ k e h. absurd (no_arcs k e h));
+      noded = (λ k e h. absurd (no_arcs k e h));
+      trimmed = (λ k e h. absurd (no_arcs k e h));
+      started = (λ k t h. absurd (no_times k t h));
+      ended = (λ k t h. absurd (no_times k t h));
+    }
 
 pub returns : goal.returns
 unfolding blank

@@ -20,20 +20,23 @@ returns-then-from-to c =
     (sym c.if-not-is_set.ensures) (sym c.if-not-is_node.ensures) (sym c.if-not-is_node-2.ensures)
     (paired_none (block_of c.args.self.now) (nat_abs (to_z w32 (of_z w32 c.args.set))) u v _ c.args.self.now.rising c.ahead-reached.ensures.all none)
 
-pub invariant-of-self : goal.invariant-of-self
-invariant-of-self c =
+pub invariant_of-self : goal.invariant_of-self
+invariant_of-self c =
     let g = c.args.self.now in
     let A = c.ahead-reached.result in
     let B = c.behind-reaching.result in
     let s = nat_abs (to_z w32 (of_z w32 c.args.set)) in
     let f = marked s A B in
-    let k = marked_keeps s A B in (
-      g.room,
-      (
-        numbered_map f k (arcs_of g.arcs) _ c.mark.ensures g.taken g.numbered,
-        (rising_map f k (arcs_of g.arcs) _ c.mark.ensures g.rising, (nodes_map f k (arcs_of g.arcs) _ c.mark.ensures g.noded, (trims_map f k (arcs_of g.arcs) _ c.mark.ensures g.trimmed, (g.started, (g.ended, tt))))),
-      ),
-    )
+    let k = marked_keeps s A B in
+    record {
+      room = g.room;
+      numbered = numbered_map f k (arcs_of g.arcs) _ c.mark.ensures g.taken g.numbered;
+      rising = rising_map f k (arcs_of g.arcs) _ c.mark.ensures g.rising;
+      noded = nodes_map f k (arcs_of g.arcs) _ c.mark.ensures g.noded;
+      trimmed = trims_map f k (arcs_of g.arcs) _ c.mark.ensures g.trimmed;
+      started = g.started;
+      ended = g.ended;
+    }
 
 pub returns : goal.returns
 returns c =

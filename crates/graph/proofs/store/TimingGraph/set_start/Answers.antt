@@ -6,12 +6,20 @@ use Rattle.graph.proofs.Slots.{put_slot, some_same}
 use Rattle.graph.proofs.Accepted.{started}
 use Rattle.graph.proofs.store.TimingGraph.set_start.Goals as goal
 
-pub invariant-of-self : goal.invariant-of-self
-invariant-of-self c =
+pub invariant_of-self : goal.invariant_of-self
+invariant_of-self c =
     let g = c.args.self.now in
     let times = put_slot slot_time g.starts _ _ (λ _ t. is_ticks t ≡ true) g.started
     (λ t h. subst (λ x. is_ticks x ≡ true) (some_same _ t h) (sym c.if-not-is_ticks.ensures)) in
-    (g.room, (g.numbered, (g.rising, (g.noded, (g.trimmed, (times, (g.ended, tt)))))))
+    record {
+      room = g.room;
+      numbered = g.numbered;
+      rising = g.rising;
+      noded = g.noded;
+      trimmed = g.trimmed;
+      started = times;
+      ended = g.ended;
+    }
 
 pub returns : goal.returns
 returns c =

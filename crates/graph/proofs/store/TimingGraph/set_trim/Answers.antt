@@ -7,8 +7,8 @@ use Rattle.graph.proofs.Slots.{put_slot, some_same}
 use Rattle.graph.proofs.Accepted.{retrimmed}
 use Rattle.graph.proofs.store.TimingGraph.set_trim.Goals as goal
 
-pub invariant-of-self : goal.invariant-of-self
-invariant-of-self c =
+pub invariant_of-self : goal.invariant_of-self
+invariant_of-self c =
     let g = c.args.self.now in
     let live = sym c.in-Some.ensures in
     let numbers = put_slot slot_arc g.arcs _ _ (λ k _. k < g.taken) g.numbered (λ e h. g.numbered _ _ live) in
@@ -17,7 +17,15 @@ invariant-of-self c =
     let nodes = put_slot slot_arc g.arcs _ _ (λ _ e. e.to < 256) g.noded (λ e h. subst (λ x. x.to < 256) (some_same _ e h) (g.noded _ _ live)) in
     let trims = put_slot slot_arc g.arcs _ _ (λ _ e. is_ticks e.trim ≡ true) g.trimmed
     (λ e h. subst (λ x. is_ticks x.trim ≡ true) (some_same _ e h) (sym c.if-not-is_ticks.ensures)) in
-    (g.room, (numbers, (rises, (nodes, (trims, (g.started, (g.ended, tt)))))))
+    record {
+      room = g.room;
+      numbered = numbers;
+      rising = rises;
+      noded = nodes;
+      trimmed = trims;
+      started = g.started;
+      ended = g.ended;
+    }
 
 pub returns : goal.returns
 returns c =
