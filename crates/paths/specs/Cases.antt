@@ -1,6 +1,7 @@
 -- The worked cases of the two-selector block, as one table: calls on a new graph, an annotated delay table, and what timing then answers and shows.
 use Rattle.std.specs.Prelude.{◌≡◌, ℕ, zero, suc, Bool, true, List, [], ◌∷◌, map, ℤ, pos, negsuc, Some, None, Ok, Err, Option, Result}
 use Rattle.std.specs.List.{AllByRecursion as All}
+use Rattle.std.specs.declared.clone.Clone as clone
 use Rattle.measure.specs.Rows.{Row}
 use Rattle.measure.specs.Laws.{Laws}
 use Rattle.measure.specs.contracts.ticks.Ticks.{the_row}
@@ -78,18 +79,22 @@ pub data Reply : Type 0 where
   delay : Entry → Reply
 
 -- ---- what is answered
+-- a copy of a count of ticks, which the early measure asks of the one below, is the count itself
+abbrev ticks_clone : clone.Ghosts the_row.Denot
+ticks_clone = record { is_clone = λ x y. y ≡ x; is_infallible = λ _. Unit {0} }
+
 -- the order and the rows of the two measures, which the measures themselves name
 abbrev pub not_after : Measured → Row 1 → Row 1 → Bool
 not_after in_ticks = (ticks.ghosts).not_later
-not_after in_early_ticks = (early.ghosts the_row ticks.ghosts ticks.dict).not_later
+not_after in_early_ticks = (early.ghosts the_row ticks.ghosts ticks.dict ticks_clone ticks.dict).not_later
 
 abbrev pub time_row : Measured → ℤ → Row 1
 time_row in_ticks = (ticks.ghosts).row_of_time
-time_row in_early_ticks = (early.ghosts the_row ticks.ghosts ticks.dict).row_of_time
+time_row in_early_ticks = (early.ghosts the_row ticks.ghosts ticks.dict ticks_clone ticks.dict).row_of_time
 
 abbrev pub arc_row : Measured → ℤ → Row 1
 arc_row in_ticks = (ticks.ghosts).row_of_arc
-arc_row in_early_ticks = (early.ghosts the_row ticks.ghosts ticks.dict).row_of_arc
+arc_row in_early_ticks = (early.ghosts the_row ticks.ghosts ticks.dict ticks_clone ticks.dict).row_of_arc
 
 abbrev pub block_in : Measured → Block → Result (RowBlock (Row 1)) Untimed
 block_in m g = row_block by_node (time_row m) (arc_row m) g selector_delays

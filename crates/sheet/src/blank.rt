@@ -35,7 +35,7 @@ pub fn blank_nodes(nodes: &mut [NodeEntry])
 }
 
 pub fn blank_rows<M: Measure>(values: &mut [M])
-    ensures { map row values.new ≡ replicate (length values.old) (zeros width) }
+    ensures { map M.Measure.row values.new ≡ replicate (length values.old) (zeros M.width) }
 {
     let zero = M::zero();
     for value in values.iter_mut() {

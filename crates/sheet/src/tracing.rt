@@ -85,8 +85,8 @@ pub fn trace<M: Measure>(
     slacks: &[M],
     list: &mut [u16],
 ) -> Result<Option<usize>, TraceRefusal>
-    ensures answer { result_map_both (λ n. n) refusal_number result ≡ (trace_outcome (tables_of row lines.now arrivals.now required.now nodes.now slacks.now) node (length list.old)).answer }
-    ensures list { list.new ≡ (trace_outcome (tables_of row lines.now arrivals.now required.now nodes.now slacks.now) node (length list.old)).list }
+    ensures answer { result_map_both (λ n. n) refusal_number result ≡ (trace_outcome (tables_of M.Measure.row lines.now arrivals.now required.now nodes.now slacks.now) node (length list.old)).answer }
+    ensures list { list.new ≡ (trace_outcome (tables_of M.Measure.row lines.now arrivals.now required.now nodes.now slacks.now) node (length list.old)).list }
 {
     list.fill(NO_ARC);
     if !is_well_sized(lines, arrivals, required, nodes, slacks) {

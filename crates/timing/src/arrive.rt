@@ -32,7 +32,7 @@ fn start_line<M: Measure>(
 ) -> Option<usize>
     requires base_in_bounds { base ≤ length lines.old }
     requires times_len { length times.old ≡ length lines.old }
-    ensures { Filled row base lines.old times.old (entered (measured width not_later) (started node (on_some row start)) []) lines.new times.new result }
+    ensures { Filled M.Measure.row base lines.old times.old (entered (measured M.width M.not_later) (started node (on_some M.Measure.row start)) []) lines.new times.new result }
 {
     let Some(time) = start else {
         return Some(0);
@@ -67,8 +67,8 @@ fn arrive<M: Measure>(
     requires lines { base ≤ 4096 }
     requires room { base ≤ length lines.old }
     requires even { length times.old ≡ length lines.old }
-    requires near { Near width 256000000 (front row base lines.old times.old) }
-    ensures { Filled row base lines.old times.old (entered (measured width not_later) (started node ((block_with (zeros width) (map row_of_arc tables.now.ticks) row_of_time (block_of graph.now)).start node) ++ flat_map (brought (measured width not_later) (block_of graph.now).arcs (map row_of_arc tables.now.ticks) firsts.now (front row base lines.old times.old)) (listed heads.now node)) []) lines.new times.new result }
+    requires near { Near M.width 256000000 (front M.Measure.row base lines.old times.old) }
+    ensures { Filled M.Measure.row base lines.old times.old (entered (measured M.width M.not_later) (started node ((block_with (zeros M.width) (map M.row_of_arc tables.now.ticks) M.row_of_time (block_of graph.now)).start node) ++ flat_map (brought (measured M.width M.not_later) (block_of graph.now).arcs (map M.row_of_arc tables.now.ticks) firsts.now (front M.Measure.row base lines.old times.old)) (listed heads.now node)) []) lines.new times.new result }
 {
     let count = start_line(node, time_row(graph.start(node)), lines, times, base)?;
     bring_all(
@@ -95,11 +95,11 @@ pub(crate) fn arrive_all<M: Measure>(
     requires indexed { Indexes Head (block_of graph.now).arcs heads.now }
     requires masked { Masked (block_of graph.now).arcs tables.now.begins tables.now.ends }
     requires ticked { Ticked (block_of graph.now).arcs tables.now.ticks }
-    requires sound { Sound (Bounded width 1000000) (block_with (zeros width) (map row_of_arc tables.now.ticks) row_of_time (block_of graph.now)) 256 }
+    requires sound { Sound (Bounded M.width 1000000) (block_with (zeros M.width) (map M.row_of_arc tables.now.ticks) M.row_of_time (block_of graph.now)) 256 }
     requires firsts { length firsts.old ≡ 257 }
     requires lines { length lines.old ≤ 4096 }
     requires even { length times.old ≡ length lines.old }
-    ensures { Arrives row (measured width not_later) (block_with (zeros width) (map row_of_arc tables.now.ticks) row_of_time (block_of graph.now)) lines.new times.new firsts.new result }
+    ensures { Arrives M.Measure.row (measured M.width M.not_later) (block_with (zeros M.width) (map M.row_of_arc tables.now.ticks) M.row_of_time (block_of graph.now)) lines.new times.new firsts.new result }
 {
     firsts[0] = 0;
     let mut base = 0;

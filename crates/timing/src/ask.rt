@@ -14,9 +14,9 @@ use measure::is_tick_count;
 // The ticks of an arc: what its source answers, plus the trim.
 fn ask<S: Source>(source: &mut S, number: u16, trim: i32) -> Result<i32, TimeRefusal>
     requires { is_ticks trim ≡ true }
-    ensures value { result ≡ or_refused (arc_ticks number trim (means source.old number)) }
-    ensures same { means source.new ≡ means source.old }
-    ensures level { depth source.new ≡ depth source.old }
+    ensures value { result ≡ or_refused (arc_ticks number trim (S.means source.old number)) }
+    ensures same { S.means source.new ≡ S.means source.old }
+    ensures level { S.depth source.new ≡ S.depth source.old }
 {
     let ticks = source.delay(number)? + trim;
     if is_tick_count(ticks) {
@@ -36,9 +36,9 @@ fn ask_arc<S: Source>(
     requires size { length ticks.old ≡ 1024 }
     requires number { number < 1024 }
     requires trim { (e : Live) → arc ≡ Some e → is_ticks e.trim ≡ true }
-    ensures asked { AskedOne number arc (means source.old) ticks.old ticks.new result }
-    ensures same { means source.new ≡ means source.old }
-    ensures level { depth source.new ≡ depth source.old }
+    ensures asked { AskedOne number arc (S.means source.old) ticks.old ticks.new result }
+    ensures same { S.means source.new ≡ S.means source.old }
+    ensures level { S.depth source.new ≡ S.depth source.old }
 {
     let Some(arc) = arc else {
         return Ok(());
@@ -54,9 +54,9 @@ pub(crate) fn ask_all<S: Source>(
     ticks: &mut [i32],
 ) -> Result<(), TimeRefusal>
     requires { length ticks.old ≡ 1024 }
-    ensures asked { Asked (block_of graph.now).arcs (means source.old) ticks.new result }
-    ensures same { means source.new ≡ means source.old }
-    ensures level { depth source.new ≡ depth source.old }
+    ensures asked { Asked (block_of graph.now).arcs (S.means source.old) ticks.new result }
+    ensures same { S.means source.new ≡ S.means source.old }
+    ensures level { S.depth source.new ≡ S.depth source.old }
 {
     for number in 0..graph.taken() {
         ask_arc(source, number, graph.arc(number), ticks)?;

@@ -33,8 +33,8 @@ fn put_required<M: Measure>(
     requires i_in_bounds { i < length lines.old }
     requires required_len { length required.old ≡ length lines.old }
     requires lines_len_bound { length lines.old ≤ 4096 }
-    ensures lines { lines.new ≡ slice_set lines.old i (asked_line (slice_index_or lines.old i past_line) (told row asked)) }
-    ensures required { map row required.new ≡ slice_set (map row required.old) i (row_or (zeros width) (told row asked)) }
+    ensures lines { lines.new ≡ slice_set lines.old i (asked_line (slice_index_or lines.old i past_line) (told M.Measure.row asked)) }
+    ensures required { map M.Measure.row required.new ≡ slice_set (map M.Measure.row required.old) i (row_or (zeros M.width) (told M.Measure.row asked)) }
 {
     let line = lines[i];
     match asked {
@@ -71,17 +71,17 @@ fn require_node<M: Measure>(
     required: &mut [M],
 )
     requires node { node < 256 }
-    requires end { as_list (told row end) ≡ ended ((block_with (zeros width) (map row_of_arc tables.now.ticks) row_of_time (block_of graph.now)).end node) }
+    requires end { as_list (told M.Measure.row end) ≡ ended ((block_with (zeros M.width) (map M.row_of_arc tables.now.ticks) M.row_of_time (block_of graph.now)).end node) }
     requires numbers { numbers.now ≡ numbers_at Tail node 0 (block_of graph.now).arcs }
     requires masked { Masked (block_of graph.now).arcs tables.now.begins tables.now.ends }
     requires ticked { Ticked (block_of graph.now).arcs tables.now.ticks }
-    requires sound { Sound (Bounded width 1000000) (block_with (zeros width) (map row_of_arc tables.now.ticks) row_of_time (block_of graph.now)) 256 }
+    requires sound { Sound (Bounded M.width 1000000) (block_with (zeros M.width) (map M.row_of_arc tables.now.ticks) M.row_of_time (block_of graph.now)) 256 }
     requires sized { length firsts.now ≡ 257 }
-    requires firsts { FirstsAre (measured width not_later) (block_with (zeros width) (map row_of_arc tables.now.ticks) row_of_time (block_of graph.now)) 256 firsts.now }
+    requires firsts { FirstsAre (measured M.width M.not_later) (block_with (zeros M.width) (map M.row_of_arc tables.now.ticks) M.row_of_time (block_of graph.now)) 256 firsts.now }
     requires lines { length lines.old ≤ 4096 }
     requires even { length required.old ≡ length lines.old }
-    requires after { RequiredFrom row (measured width not_later) (block_with (zeros width) (map row_of_arc tables.now.ticks) row_of_time (block_of graph.now)) 256 (slice_index firsts.now (node + 1)) lines.old required.old }
-    ensures { RequiredFrom row (measured width not_later) (block_with (zeros width) (map row_of_arc tables.now.ticks) row_of_time (block_of graph.now)) 256 (slice_index firsts.now node) lines.new required.new }
+    requires after { RequiredFrom M.Measure.row (measured M.width M.not_later) (block_with (zeros M.width) (map M.row_of_arc tables.now.ticks) M.row_of_time (block_of graph.now)) 256 (slice_index firsts.now (node + 1)) lines.old required.old }
+    ensures { RequiredFrom M.Measure.row (measured M.width M.not_later) (block_with (zeros M.width) (map M.row_of_arc tables.now.ticks) M.row_of_time (block_of graph.now)) 256 (slice_index firsts.now node) lines.new required.new }
 {
     for i in (firsts[node] as usize..firsts[node + 1] as usize).rev() {
         let tag = lines[i].tag;
@@ -103,13 +103,13 @@ pub(crate) fn require_all<M: Measure>(
     requires indexed { Indexes Tail (block_of graph.now).arcs tails.now }
     requires masked { Masked (block_of graph.now).arcs tables.now.begins tables.now.ends }
     requires ticked { Ticked (block_of graph.now).arcs tables.now.ticks }
-    requires sound { Sound (Bounded width 1000000) (block_with (zeros width) (map row_of_arc tables.now.ticks) row_of_time (block_of graph.now)) 256 }
+    requires sound { Sound (Bounded M.width 1000000) (block_with (zeros M.width) (map M.row_of_arc tables.now.ticks) M.row_of_time (block_of graph.now)) 256 }
     requires firsts { length firsts.now ≡ 257 }
     requires lines { length lines.old ≤ 4096 }
     requires even { length required.old ≡ length lines.old }
-    requires arrived { Arrived row (measured width not_later) (block_with (zeros width) (map row_of_arc tables.now.ticks) row_of_time (block_of graph.now)) 256 lines.old times.now firsts.now (length lines.old) }
-    ensures lines { lines.new ≡ map line_of (model (measured width not_later) (block_with (zeros width) (map row_of_arc tables.now.ticks) row_of_time (block_of graph.now)) 256) }
-    ensures required { map row required.new ≡ map (required_of (zeros width)) (model (measured width not_later) (block_with (zeros width) (map row_of_arc tables.now.ticks) row_of_time (block_of graph.now)) 256) }
+    requires arrived { Arrived M.Measure.row (measured M.width M.not_later) (block_with (zeros M.width) (map M.row_of_arc tables.now.ticks) M.row_of_time (block_of graph.now)) 256 lines.old times.now firsts.now (length lines.old) }
+    ensures lines { lines.new ≡ map line_of (model (measured M.width M.not_later) (block_with (zeros M.width) (map M.row_of_arc tables.now.ticks) M.row_of_time (block_of graph.now)) 256) }
+    ensures required { map M.Measure.row required.new ≡ map (required_of (zeros M.width)) (model (measured M.width M.not_later) (block_with (zeros M.width) (map M.row_of_arc tables.now.ticks) M.row_of_time (block_of graph.now)) 256) }
 {
     for node in (0..256u16).rev() {
         let end = ask_end(time_row(graph.end(node as u8)));

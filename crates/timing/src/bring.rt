@@ -34,8 +34,8 @@ fn bring<M: Measure>(
     requires lines { base ≤ 4096 }
     requires room { base + count ≤ length lines.old }
     requires even { length times.old ≡ length lines.old }
-    requires near { Near width 256000000 (front row base lines.old times.old) }
-    ensures { Filled row base lines.old times.old (entered (measured width not_later) (brought (measured width not_later) (block_of graph.now).arcs (map row_of_arc tables.now.ticks) firsts.now (front row base lines.old times.old) number) (behind row base count lines.old times.old)) lines.new times.new result }
+    requires near { Near M.width 256000000 (front M.Measure.row base lines.old times.old) }
+    ensures { Filled M.Measure.row base lines.old times.old (entered (measured M.width M.not_later) (brought (measured M.width M.not_later) (block_of graph.now).arcs (map M.row_of_arc tables.now.ticks) firsts.now (front M.Measure.row base lines.old times.old) number) (behind M.Measure.row base count lines.old times.old)) lines.new times.new result }
 {
     let Some(arc) = graph.arc(number) else {
         return Some(count);
@@ -71,8 +71,8 @@ pub(crate) fn bring_all<M: Measure>(
     requires lines { base ≤ 4096 }
     requires room { base + count ≤ length lines.old }
     requires even { length times.old ≡ length lines.old }
-    requires near { Near width 256000000 (front row base lines.old times.old) }
-    ensures { Filled row base lines.old times.old (entered (measured width not_later) (flat_map (brought (measured width not_later) (block_of graph.now).arcs (map row_of_arc tables.now.ticks) firsts.now (front row base lines.old times.old)) numbers.now) (behind row base count lines.old times.old)) lines.new times.new result }
+    requires near { Near M.width 256000000 (front M.Measure.row base lines.old times.old) }
+    ensures { Filled M.Measure.row base lines.old times.old (entered (measured M.width M.not_later) (flat_map (brought (measured M.width M.not_later) (block_of graph.now).arcs (map M.row_of_arc tables.now.ticks) firsts.now (front M.Measure.row base lines.old times.old)) numbers.now) (behind M.Measure.row base count lines.old times.old)) lines.new times.new result }
 {
     for number in numbers {
         count = bring(*number, graph, tables, firsts, lines, times, base, count)?;

@@ -23,7 +23,7 @@ pub(crate) fn enter_behind<M: Measure>(
 ) -> Option<usize>
     requires count_in_bounds { base + count ≤ length lines.old }
     requires times_len { length times.old ≡ length lines.old }
-    ensures { Filled row base lines.old times.old (entry (measured width not_later) (view row line time) (behind row base count lines.old times.old)) lines.new times.new result }
+    ensures { Filled M.Measure.row base lines.old times.old (entry (measured M.width M.not_later) (view M.Measure.row line time) (behind M.Measure.row base count lines.old times.old)) lines.new times.new result }
 {
     enter(&mut lines[base..], &mut times[base..], count, line, time)
 }
@@ -41,9 +41,9 @@ fn cross_line<M: Measure>(
     requires base_bound { base ≤ 4096 }
     requires count_in_bounds { base + count ≤ length lines.old }
     requires times_len { length times.old ≡ length lines.old }
-    requires near { Near width 256000000 (front row base lines.old times.old) }
-    requires bounded { Bounded width 1000000 (row crossing.row) }
-    ensures { Filled row base lines.old times.old (entered (measured width not_later) (crossed (measured width not_later) (meant row crossing) i (segment i 1 (front row base lines.old times.old))) (behind row base count lines.old times.old)) lines.new times.new result }
+    requires near { Near M.width 256000000 (front M.Measure.row base lines.old times.old) }
+    requires bounded { Bounded M.width 1000000 (M.Measure.row crossing.row) }
+    ensures { Filled M.Measure.row base lines.old times.old (entered (measured M.width M.not_later) (crossed (measured M.width M.not_later) (meant M.Measure.row crossing) i (segment i 1 (front M.Measure.row base lines.old times.old))) (behind M.Measure.row base count lines.old times.old)) lines.new times.new result }
 {
     let Some(tag) = pass(lines[i].tag, crossing.begins, crossing.sets, crossing.ends) else {
         return Some(count);
@@ -76,9 +76,9 @@ pub(crate) fn cross<M: Measure>(
     requires base_bound { base ≤ 4096 }
     requires count_in_bounds { base + count ≤ length lines.old }
     requires times_len { length times.old ≡ length lines.old }
-    requires near { Near width 256000000 (front row base lines.old times.old) }
-    requires bounded { Bounded width 1000000 (row crossing.row) }
-    ensures { Filled row base lines.old times.old (entered (measured width not_later) (crossed (measured width not_later) (meant row crossing) first (segment first (last - first) (front row base lines.old times.old))) (behind row base count lines.old times.old)) lines.new times.new result }
+    requires near { Near M.width 256000000 (front M.Measure.row base lines.old times.old) }
+    requires bounded { Bounded M.width 1000000 (M.Measure.row crossing.row) }
+    ensures { Filled M.Measure.row base lines.old times.old (entered (measured M.width M.not_later) (crossed (measured M.width M.not_later) (meant M.Measure.row crossing) first (segment first (last - first) (front M.Measure.row base lines.old times.old))) (behind M.Measure.row base count lines.old times.old)) lines.new times.new result }
 {
     for i in first..last {
         count = cross_line(crossing, i, lines, times, base, count)?;

@@ -22,8 +22,8 @@ fn put_entry<M: Measure>(
 )
     requires nodes { v < length nodes.old }
     requires slacks { v < length slacks.old }
-    ensures nodes { nodes.new ≡ slice_set nodes.old v (entry_of (told row least)) }
-    ensures slacks { map row slacks.new ≡ slice_set (map row slacks.old) v (row_or (zeros width) (told row least)) }
+    ensures nodes { nodes.new ≡ slice_set nodes.old v (entry_of (told M.Measure.row least)) }
+    ensures slacks { map M.Measure.row slacks.new ≡ slice_set (map M.Measure.row slacks.old) v (row_or (zeros M.width) (told M.Measure.row least)) }
 {
     match least {
         Some(told) => {
@@ -57,12 +57,12 @@ pub(crate) fn write_entries<M: Measure>(
     requires few { length lines.now ≤ 4096 }
     requires times { length times.now ≡ length lines.now }
     requires required { length required.now ≡ length lines.now }
-    requires asks { AsksWithin width row lines.now required.now }
-    requires within { TimesWithin width row times.now }
+    requires asks { AsksWithin M.width M.Measure.row lines.now required.now }
+    requires within { TimesWithin M.width M.Measure.row times.now }
     requires nodes { length nodes.old ≡ 256 }
     requires slacks { length slacks.old ≡ 256 }
-    ensures nodes { nodes.new ≡ by_nodes (λ v. entry_of (node_slack (measured width not_later) v (timeds row lines.now times.now required.now))) }
-    ensures slacks { map row slacks.new ≡ by_nodes (λ v. row_or (zeros width) (node_slack (measured width not_later) v (timeds row lines.now times.now required.now))) }
+    ensures nodes { nodes.new ≡ by_nodes (λ v. entry_of (node_slack (measured M.width M.not_later) v (timeds M.Measure.row lines.now times.now required.now))) }
+    ensures slacks { map M.Measure.row slacks.new ≡ by_nodes (λ v. row_or (zeros M.width) (node_slack (measured M.width M.not_later) v (timeds M.Measure.row lines.now times.now required.now))) }
 {
     for node in 0..256usize {
         let least = least_slack(

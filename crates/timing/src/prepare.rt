@@ -11,9 +11,9 @@ use delay::Source;
 use graph::TimingGraph;
 
 pub(crate) fn prepare<S: Source>(graph: &TimingGraph, source: &mut S) -> Result<Tables, TimeRefusal>
-    ensures prepared { Prepared (block_of graph.now).arcs (means source.old) result }
-    ensures same { means source.new ≡ means source.old }
-    ensures level { depth source.new ≡ depth source.old }
+    ensures prepared { Prepared (block_of graph.now).arcs (S.means source.old) result }
+    ensures same { S.means source.new ≡ S.means source.old }
+    ensures level { S.depth source.new ≡ S.depth source.old }
 {
     let mut ticks = [0; 1024];
     let mut begins = [0; 256];

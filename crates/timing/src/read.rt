@@ -13,7 +13,7 @@ use measure::Measure;
 pub(crate) fn read_crossing<M: Measure>(number: u16, arc: LiveArc, tables: &Tables) -> Crossing<M>
     requires below { number < 1024 }
     requires ticked { is_ticks (slice_index_or tables.now.ticks number (pos 0)) ≡ true }
-    ensures { meant row result ≡ tabled_crossing row_of_arc tables.now number arc }
+    ensures { meant M.Measure.row result ≡ tabled_crossing M.row_of_arc tables.now number arc }
 {
     Crossing {
         arc: number,

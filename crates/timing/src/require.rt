@@ -38,7 +38,7 @@ fn find(lines: &[Line], first: usize, last: usize, tag: u16) -> usize
 
 // The earlier of two, of equals the first.
 pub(crate) fn earlier<M: Measure>(a: Option<Told<M>>, c: Option<Told<M>>) -> Option<Told<M>>
-    ensures { told row result ≡ pick (measured width not_later) (told row a) (told row c) }
+    ensures { told M.Measure.row result ≡ pick (measured M.width M.not_later) (told M.Measure.row a) (told M.Measure.row c) }
 {
     match (a, c) {
         (None, _) => c,
@@ -60,9 +60,9 @@ fn ask_line<M: Measure>(
     requires last_in_bounds { last ≤ length lines.now }
     requires lines_len_bound { length lines.now ≤ 4096 }
     requires required_len { length required.now ≡ length lines.now }
-    requires asks_between { AsksBetween width row first last lines.now required.now }
-    requires bounded { Bounded width 1000000 (row crossing.row) }
-    ensures { told row result ≡ asked_of (measured width not_later) (meant row crossing) tag first (segment first (last - first) (marks row lines.now required.now)) }
+    requires asks_between { AsksBetween M.width M.Measure.row first last lines.now required.now }
+    requires bounded { Bounded M.width 1000000 (M.Measure.row crossing.row) }
+    ensures { told M.Measure.row result ≡ asked_of (measured M.width M.not_later) (meant M.Measure.row crossing) tag first (segment first (last - first) (marks M.Measure.row lines.now required.now)) }
 {
     let j = find(lines, first, last, tag);
     if j == last {
@@ -95,8 +95,8 @@ fn ask_over<M: Measure>(
     requires ticked { Ticked (block_of graph.now).arcs tables.now.ticks }
     requires lines { length lines.now ≤ 4096 }
     requires even { length required.now ≡ length lines.now }
-    requires within { (e : LiveArc) → slice_index_or (block_of graph.now).arcs number None ≡ Some e → AsksBeyond width row firsts.now lines.now required.now e }
-    ensures { told row result ≡ asked_at (measured width not_later) (block_of graph.now).arcs (map row_of_arc tables.now.ticks) firsts.now (marks row lines.now required.now) tag number }
+    requires within { (e : LiveArc) → slice_index_or (block_of graph.now).arcs number None ≡ Some e → AsksBeyond M.width M.Measure.row firsts.now lines.now required.now e }
+    ensures { told M.Measure.row result ≡ asked_at (measured M.width M.not_later) (block_of graph.now).arcs (map M.row_of_arc tables.now.ticks) firsts.now (marks M.Measure.row lines.now required.now) tag number }
 {
     let Some(arc) = graph.arc(number) else {
         return None;
@@ -118,7 +118,7 @@ fn ask_over<M: Measure>(
 
 // What a node's end asks of its lines.
 pub(crate) fn ask_end<M: Measure>(end: Option<M>) -> Option<Told<M>>
-    ensures { as_list (told row result) ≡ ended (on_some row end) }
+    ensures { as_list (told M.Measure.row result) ≡ ended (on_some M.Measure.row end) }
 {
     let row = end?;
     Some(Told {
@@ -145,8 +145,8 @@ pub(crate) fn require<M: Measure>(
     requires ticked { Ticked (block_of graph.now).arcs tables.now.ticks }
     requires lines { length lines.now ≤ 4096 }
     requires even { length required.now ≡ length lines.now }
-    requires within { AllAskBeyond width row (block_of graph.now).arcs firsts.now lines.now required.now numbers.now }
-    ensures { told row result ≡ first_least (measured width not_later) (as_list (told row end) ++ flat_map (λ k. as_list (asked_at (measured width not_later) (block_of graph.now).arcs (map row_of_arc tables.now.ticks) firsts.now (marks row lines.now required.now) tag k)) numbers.now) }
+    requires within { AllAskBeyond M.width M.Measure.row (block_of graph.now).arcs firsts.now lines.now required.now numbers.now }
+    ensures { told M.Measure.row result ≡ first_least (measured M.width M.not_later) (as_list (told M.Measure.row end) ++ flat_map (λ k. as_list (asked_at (measured M.width M.not_later) (block_of graph.now).arcs (map M.row_of_arc tables.now.ticks) firsts.now (marks M.Measure.row lines.now required.now) tag k)) numbers.now) }
 {
     let mut best = end;
     for number in numbers {

@@ -7,14 +7,14 @@ use measure::Measure;
 
 pub(crate) fn arc_row<M: Measure>(ticks: i32) -> M
     requires { is_ticks ticks ≡ true }
-    ensures { row result ≡ row_of_arc ticks }
+    ensures { M.Measure.row result ≡ M.row_of_arc ticks }
 {
     M::arc(ticks).unwrap()
 }
 
 pub(crate) fn time_row<M: Measure>(ticks: Option<i32>) -> Option<M>
     requires { (t : ℤ) → ticks ≡ Some t → is_ticks t ≡ true }
-    ensures { on_some row result ≡ on_some row_of_time ticks }
+    ensures { on_some M.Measure.row result ≡ on_some M.row_of_time ticks }
 {
     match ticks {
         Some(t) => M::time(t),

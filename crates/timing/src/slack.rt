@@ -17,9 +17,9 @@ fn line_slack<M: Measure>(lines: &[Line], times: &[M], required: &[M], i: usize)
     requires lines_len_bound { length lines.now ≤ 4096 }
     requires times_len { length times.now ≡ length lines.now }
     requires required_len { length required.now ≡ length lines.now }
-    requires asks_within { AsksWithin width row lines.now required.now }
-    requires times_within { TimesWithin width row times.now }
-    ensures { as_list (told row result) ≡ slacks_of (measured width not_later) i (segment i 1 (timeds row lines.now times.now required.now)) }
+    requires asks_within { AsksWithin M.width M.Measure.row lines.now required.now }
+    requires times_within { TimesWithin M.width M.Measure.row times.now }
+    ensures { as_list (told M.Measure.row result) ≡ slacks_of (measured M.width M.not_later) i (segment i 1 (timeds M.Measure.row lines.now times.now required.now)) }
 {
     if !lines[i].required {
         return None;
@@ -45,9 +45,9 @@ pub(crate) fn least_slack<M: Measure>(
     requires lines_len_bound { length lines.now ≤ 4096 }
     requires times_len { length times.now ≡ length lines.now }
     requires required_len { length required.now ≡ length lines.now }
-    requires asks_within { AsksWithin width row lines.now required.now }
-    requires times_within { TimesWithin width row times.now }
-    ensures { told row result ≡ first_least (measured width not_later) (slacks_of (measured width not_later) first (segment first (last - first) (timeds row lines.now times.now required.now))) }
+    requires asks_within { AsksWithin M.width M.Measure.row lines.now required.now }
+    requires times_within { TimesWithin M.width M.Measure.row times.now }
+    ensures { told M.Measure.row result ≡ first_least (measured M.width M.not_later) (slacks_of (measured M.width M.not_later) first (segment first (last - first) (timeds M.Measure.row lines.now times.now required.now))) }
 {
     let mut least = None;
     for i in first..last {

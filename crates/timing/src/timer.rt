@@ -36,7 +36,7 @@ fn blank<M: Measure>(
     nodes: &mut [NodeEntry],
     slacks: &mut [M],
 )
-    ensures { tables_of row lines.new arrivals.new required.new nodes.new slacks.new ≡ blanked (zeros width) (tables_of row lines.old arrivals.old required.old nodes.old slacks.old) }
+    ensures { tables_of M.Measure.row lines.new arrivals.new required.new nodes.new slacks.new ≡ blanked (zeros M.width) (tables_of M.Measure.row lines.old arrivals.old required.old nodes.old slacks.old) }
 {
     blank_lines(lines);
     blank_rows(arrivals);
@@ -56,7 +56,7 @@ fn blank_lines_from(lines: &mut [Line], count: usize)
 // Blanks the values from `count` on.
 fn blank_rows_from<M: Measure>(values: &mut [M], count: usize)
     requires { count ≤ length values.old }
-    ensures { map row values.new ≡ map row (take count values.old) ++ replicate (length values.old - count) (zeros width) }
+    ensures { map M.Measure.row values.new ≡ map M.Measure.row (take count values.old) ++ replicate (length values.old - count) (zeros M.width) }
 {
     blank_rows(&mut values[count..]);
 }
@@ -74,17 +74,17 @@ fn complete<M: Measure>(
 )
     requires masked { Masked (block_of graph.now).arcs tables.now.begins tables.now.ends }
     requires ticked { Ticked (block_of graph.now).arcs tables.now.ticks }
-    requires sound { Sound (Bounded width 1000000) (block_with (zeros width) (map row_of_arc tables.now.ticks) row_of_time (block_of graph.now)) 256 }
+    requires sound { Sound (Bounded M.width 1000000) (block_with (zeros M.width) (map M.row_of_arc tables.now.ticks) M.row_of_time (block_of graph.now)) 256 }
     requires firsts { length firsts.now ≡ 257 }
     requires lines { length lines.old ≤ 4096 }
     requires even { length required.old ≡ length lines.old }
-    requires arrived { Arrived row (measured width not_later) (block_with (zeros width) (map row_of_arc tables.now.ticks) row_of_time (block_of graph.now)) 256 lines.old arrivals.now firsts.now (length lines.old) }
+    requires arrived { Arrived M.Measure.row (measured M.width M.not_later) (block_with (zeros M.width) (map M.row_of_arc tables.now.ticks) M.row_of_time (block_of graph.now)) 256 lines.old arrivals.now firsts.now (length lines.old) }
     requires nodes { length nodes.old ≡ 256 }
     requires slacks { length slacks.old ≡ 256 }
-    ensures lines { lines.new ≡ map line_of (model (measured width not_later) (block_with (zeros width) (map row_of_arc tables.now.ticks) row_of_time (block_of graph.now)) 256) }
-    ensures required { map row required.new ≡ map (required_of (zeros width)) (model (measured width not_later) (block_with (zeros width) (map row_of_arc tables.now.ticks) row_of_time (block_of graph.now)) 256) }
-    ensures nodes { nodes.new ≡ by_nodes (λ v. entry_of (node_slack (measured width not_later) v (model (measured width not_later) (block_with (zeros width) (map row_of_arc tables.now.ticks) row_of_time (block_of graph.now)) 256))) }
-    ensures slacks { map row slacks.new ≡ by_nodes (λ v. row_or (zeros width) (node_slack (measured width not_later) v (model (measured width not_later) (block_with (zeros width) (map row_of_arc tables.now.ticks) row_of_time (block_of graph.now)) 256))) }
+    ensures lines { lines.new ≡ map line_of (model (measured M.width M.not_later) (block_with (zeros M.width) (map M.row_of_arc tables.now.ticks) M.row_of_time (block_of graph.now)) 256) }
+    ensures required { map M.Measure.row required.new ≡ map (required_of (zeros M.width)) (model (measured M.width M.not_later) (block_with (zeros M.width) (map M.row_of_arc tables.now.ticks) M.row_of_time (block_of graph.now)) 256) }
+    ensures nodes { nodes.new ≡ by_nodes (λ v. entry_of (node_slack (measured M.width M.not_later) v (model (measured M.width M.not_later) (block_with (zeros M.width) (map M.row_of_arc tables.now.ticks) M.row_of_time (block_of graph.now)) 256))) }
+    ensures slacks { map M.Measure.row slacks.new ≡ by_nodes (λ v. row_or (zeros M.width) (node_slack (measured M.width M.not_later) v (model (measured M.width M.not_later) (block_with (zeros M.width) (map M.row_of_arc tables.now.ticks) M.row_of_time (block_of graph.now)) 256))) }
 {
     let tails = ArcIndex::by(ArcEnd::Tail, graph);
     require_all(graph, &tails, tables, firsts, lines, arrivals, required);

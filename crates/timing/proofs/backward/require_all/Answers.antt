@@ -15,7 +15,7 @@ loop-node-init g c =
     required_none m.row (measured m.width m.not_later) b 256 c.args.lines.now c.args.times.now c.args.required.now c.args.firsts.now c.requires.even c.requires.arrived
 
 pub time_row-requires : goal.time_row-requires
-time_row-requires g c κs t e = c.args.graph.now.ended (c.loop-node.node - 1) t (sym c.end.ensures ∙ e)
+time_row-requires g c t e = c.args.graph.now.ended (c.loop-node.node - 1) t (sym c.end.ensures ∙ e)
 
 pub require_node-requires : goal.require_node-requires
 require_node-requires g c =

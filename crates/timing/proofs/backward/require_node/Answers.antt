@@ -71,11 +71,12 @@ put_required-requires g c =
     let b = block_with (zeros m.width) rows m.row_of_time h in
     let l = c.loop-i in
     let stands = node_stands m.row ms b 256 (laws_of m.width m.not_later g.met.M.Measure.laws.order) h.arcs rows refl graph.rising graph.noded c.args.firsts.now c.requires.firsts c.args.node c.requires.node in
-    let count = lines_count m.row ms b 256 l.i l.lines l.required l.invariant.1 in (
-      omega (arith, stands, count, l.auto.i, c.loop-i-test.true),
-      omega (arith, l.auto.lines, l.auto.required, c.requires.even),
-      omega (arith, l.auto.lines, c.requires.lines),
-    )
+    let count = lines_count m.row ms b 256 l.i l.lines l.required l.invariant.1 in
+    record {
+      i_in_bounds = omega (arith, stands, count, l.auto.i, c.loop-i-test.true);
+      required_len = omega (arith, l.auto.lines, l.auto.required, c.requires.even);
+      lines_len_bound = omega (arith, l.auto.lines, c.requires.lines);
+    }
 
 pub loop-i-preserved : goal.loop-i-preserved
 loop-i-preserved g c =

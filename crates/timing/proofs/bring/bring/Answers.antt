@@ -25,15 +25,16 @@ cross-requires g c =
     let k = c.args.number in
     let live = sym c.in-Some.ensures in
     let ready = c.requires.ready c.in-Some.arc live in
-    let t = get_or c.args.tables.now.ticks k (pos 0) in (
-      ready.rising,
-      ready.stand,
-      c.requires.lines,
-      c.requires.room,
-      c.requires.even,
-      c.requires.near,
-      subst (λ (h : Crossing (Row m.width)). Bounded m.width 1000000 h.row) (sym c.read_crossing-crossing.ensures) (g.met.M.Measure.laws.arc t (ticks_within t (c.requires.ticked k c.in-Some.arc live))),
-    )
+    let t = get_or c.args.tables.now.ticks k (pos 0) in
+    record {
+      first_le_last = ready.rising;
+      last_le_base = ready.stand;
+      base_bound = c.requires.lines;
+      count_in_bounds = c.requires.room;
+      times_len = c.requires.even;
+      near = c.requires.near;
+      bounded = subst (λ (h : Crossing (Row m.width)). Bounded m.width 1000000 h.row) (sym c.read_crossing-crossing.ensures) (g.met.M.Measure.laws.arc t (ticks_within t (c.requires.ticked k c.in-Some.arc live)));
+    }
 
 pub returns : goal.returns
 returns g c =

@@ -8,7 +8,7 @@ use Rattle.timing.proofs.cross.cross.Goals as goal
 pub loop-i-init : goal.loop-i-init
 loop-i-init g c =
     let m = g.M.Measure in
-    crossing_none m.row (measured m.width m.not_later) (meant m.row c.args.crossing) c.args.first c.args.base c.args.count c.args.lines.now c.args.times.now c.requires.3 c.requires.4
+    crossing_none m.row (measured m.width m.not_later) (meant m.row c.args.crossing) c.args.first c.args.base c.args.count c.args.lines.now c.args.times.now c.requires.count_in_bounds c.requires.times_len
 
 pub loop-i-preserved : goal.loop-i-preserved
 loop-i-preserved g c =
@@ -16,7 +16,7 @@ loop-i-preserved g c =
     let rows = measured m.width m.not_later in
     let t = sofar m.row rows (meant m.row c.args.crossing) c.args.first (c.loop-i.i + 1) c.args.base c.args.count c.args.lines.now c.args.times.now in
     let f = crossing_more m.row rows (meant m.row c.args.crossing) c.args.first c.loop-i.i c.args.base c.args.count c.args.lines.now c.args.times.now c.loop-i.lines c.loop-i.times
-    c.cross_line.new.lines c.cross_line.new.times c.loop-i.count c.cross_line.result (omega arith) (omega arith) (omega arith) c.requires.4 c.loop-i.invariant c.cross_line.ensures in
+    c.cross_line.new.lines c.cross_line.new.times c.loop-i.count c.cross_line.result (omega arith) (omega arith) (omega arith) c.requires.times_len c.loop-i.invariant c.cross_line.ensures in
     subst (λ r. Filled m.row c.args.base c.args.lines.now c.args.times.now t c.cross_line.new.lines c.cross_line.new.times r) c.in_ok-count.was f
 
 pub returns-in_err-count : goal.returns-in_err-count
@@ -25,10 +25,10 @@ returns-in_err-count g c =
     let rows = measured m.width m.not_later in
     let t = sofar m.row rows (meant m.row c.args.crossing) c.args.first (c.loop-i.i + 1) c.args.base c.args.count c.args.lines.now c.args.times.now in
     let f = crossing_more m.row rows (meant m.row c.args.crossing) c.args.first c.loop-i.i c.args.base c.args.count c.args.lines.now c.args.times.now c.loop-i.lines c.loop-i.times
-    c.cross_line.new.lines c.cross_line.new.times c.loop-i.count c.cross_line.result (omega arith) (omega arith) (omega arith) c.requires.4 c.loop-i.invariant c.cross_line.ensures in
+    c.cross_line.new.lines c.cross_line.new.times c.loop-i.count c.cross_line.result (omega arith) (omega arith) (omega arith) c.requires.times_len c.loop-i.invariant c.cross_line.ensures in
     let full : length c.args.lines.now < c.args.base + length t =
     subst (λ r. Filled m.row c.args.base c.args.lines.now c.args.times.now t c.cross_line.new.lines c.cross_line.new.times r) c.in_err-count.was f in
     let all = crossing_full m.row rows (meant m.row c.args.crossing) c.args.first (c.loop-i.i + 1) c.args.last c.args.base c.args.count c.args.lines.now c.args.times.now
-    (omega arith) (omega arith) c.requires.1 (omega arith) c.requires.4 full in
+    (omega arith) (omega arith) c.requires.last_le_base (omega arith) c.requires.times_len full in
     subst (λ r. Filled m.row c.args.base c.args.lines.now c.args.times.now (sofar m.row rows (meant m.row c.args.crossing) c.args.first c.args.last c.args.base c.args.count c.args.lines.now c.args.times.now) c.cross_line.new.lines c.cross_line.new.times r)
     (sym c.from_residual.ensures) all

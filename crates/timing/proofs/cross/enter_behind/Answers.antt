@@ -10,4 +10,4 @@ returns g c =
     let m = g.M.Measure in
     filled_part m.row c.args.base c.args.lines.now c.args.times.now c.enter.new.lines c.enter.new.times
     (λ ls xs. enter (measured m.width m.not_later) (view m.row c.args.line c.args.time) (front m.row c.args.count ls xs)) c.enter.result
-    (omega arith) c.requires.1 (omega arith) (omega arith) c.enter.ensures
+    (omega arith) c.requires.times_len (omega arith) (omega arith) c.enter.ensures

@@ -26,14 +26,15 @@ ask_line-requires g c =
     let k = c.args.number in
     let live = sym c.in-Some.ensures in
     let beyond = c.requires.beyond c.in-Some.arc live in
-    let t = get_or c.args.tables.now.ticks k (pos 0) in (
-      beyond.rising,
-      beyond.stand,
-      c.requires.lines,
-      c.requires.even,
-      c.requires.within c.in-Some.arc live,
-      subst (λ (h : Crossing (Row m.width)). Bounded m.width 1000000 h.row) (sym c.read_crossing-crossing.ensures) (g.met.M.Measure.laws.arc t (ticks_within t (c.requires.ticked k c.in-Some.arc live))),
-    )
+    let t = get_or c.args.tables.now.ticks k (pos 0) in
+    record {
+      first_le_last = beyond.rising;
+      last_in_bounds = beyond.stand;
+      lines_len_bound = c.requires.lines;
+      required_len = c.requires.even;
+      asks_between = c.requires.within c.in-Some.arc live;
+      bounded = subst (λ (h : Crossing (Row m.width)). Bounded m.width 1000000 h.row) (sym c.read_crossing-crossing.ensures) (g.met.M.Measure.laws.arc t (ticks_within t (c.requires.ticked k c.in-Some.arc live)));
+    }
 
 pub returns-in_default-pass : goal.returns-in_default-pass
 returns-in_default-pass g c =

@@ -17,4 +17,4 @@ loop-i-preserved g c =
     let ts = timeds m.row c.args.lines.now c.args.times.now c.args.required.now in
     c.earlier-least.ensures
     ∙ ap₂ (pick ms) c.loop-i.invariant refl
-    ∙ slacks_more ms c.args.first c.loop-i.i ts (told m.row c.line_slack.result) (omega arith) (omega (arith, length_timeds m.row c.args.lines.now c.args.times.now c.args.required.now c.requires.3 c.requires.4)) c.line_slack.ensures
+    ∙ slacks_more ms c.args.first c.loop-i.i ts (told m.row c.line_slack.result) (omega arith) (omega (arith, length_timeds m.row c.args.lines.now c.args.times.now c.args.required.now c.requires.times_len c.requires.required_len)) c.line_slack.ensures
