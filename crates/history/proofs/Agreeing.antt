@@ -148,7 +148,7 @@ module _ (w : ℕ) (not_later : Row w → Row w → Bool) (row_of_time row_of_ar
         (on_graphs TraceShowsLeast theorems.traced w not_later row_of_time row_of_arc laws g kept means by_node suits b made v)
         (λ room enough. on_graphs SheetsAreTraced sheets_are_traced_lem w not_later row_of_time row_of_arc laws g kept means by_node suits b made size fits limit v h room enough)
 
-    settled : Settled (rows w not_later) b node_count
+    pub settled : Settled (rows w not_later) b node_count
     settled = on_graphs SheetIsSettled theorems.settled w not_later row_of_time row_of_arc laws g kept means by_node suits b made
 
     -- what is true of the lines of a sheet is true of the computed ones alone

@@ -10,7 +10,10 @@ use Rattle.ledger.specs.Ledger.{closed}
 use Rattle.history.proofs.Histories.{runs_append}
 use Rattle.ledger.proofs.Undoing.{kept_acts}
 use Rattle.std.specs.Result.{result_unwrap_or}
-use Rattle.paths.specs.Graphs.{by_node, row_block}
+use Rattle.paths.specs.Graphs.{by_node, row_block, node_count}
+use Rattle.paths.specs.Rows.{rows}
+use Rattle.paths.specs.Sheets.{sheet}
+use Rattle.paths.specs.Theorems.{Settled}
 use Rattle.paths.specs.Blocks.{RowBlock, begin_sets, end_sets, pass, passes}
 use Rattle.paths.specs.Calls.{called}
 use Rattle.paths.specs.Cases.{in_ticks, not_after, time_row, arc_row}
@@ -23,7 +26,7 @@ use Rattle.history.specs.Answers.{Answer, acted, timed, traced}
 use Rattle.history.specs.Steps.{Terms, State, new, timing_of, Goes, Runs}
 use Rattle.history.specs.Promise.{TimingAgrees}
 use Rattle.history.specs.Worked.{worked_calls, worked_terms, worked_tables, WorkedHistory}
-use Rattle.history.proofs.Agreeing.{timing_agrees}
+use Rattle.history.proofs.Agreeing.{timing_agrees, settled}
 
 -- ---- calls as steps
 abbrev answered : Block → List Call → List Answer
@@ -73,13 +76,13 @@ pub worked : WorkedHistory
 unfolding begin_sets end_sets pass passes blank lies_between by_nodes
 worked = record {
   content = content;
-  block = result_unwrap_or (row_block by_node (time_row in_ticks) (arc_row in_ticks) content worked_terms.means) bare;
-  lines = (agrees.has_lines _ refl).lines;
+  block = block;
+  lines = sheet (rows 1 (not_after in_ticks)) block node_count;
   tables = timed_tables;
   ran =
       runs_append (Goes worked_terms) (new worked_tables (no_arcs 255)) (map (λ c. step.Act (Make c)) worked_calls) (answered blank worked_calls) (at worked_terms worked_tables (no_arcs 255) content)
       (step.Time ∷ step.Trace (pos 2) ∷ []) (timed (Ok 2) ∷ traced (Ok (Some 1)) ∷ []) traced_state calls_first (timed_state, (refl, refl), (traced_state, (refl, refl), refl));
-  accepted = agrees.accepted refl _ refl _ (agrees.has_lines _ refl).are_lines (lit≤ tt);
+  accepted = agrees.accepted refl _ refl _ is_sheet.sheet_is (lit≤ tt);
   entry_of_2 = refl;
   slack_of_2 = refl;
   entry_of_1 = refl;
@@ -87,3 +90,10 @@ worked = record {
   where
     bare : RowBlock (Row 1)
     bare = record { arcs = []; start = λ _. None; end = λ _. None }
+
+    block : RowBlock (Row 1)
+    block = result_unwrap_or (row_block by_node (time_row in_ticks) (arc_row in_ticks) content worked_terms.means) bare
+
+    is_sheet : Settled (rows 1 (not_after in_ticks)) block node_count
+    is_sheet =
+        settled 1 (not_after in_ticks) (time_row in_ticks) (arc_row in_ticks) (laws_in in_ticks) worked_terms.means content (kept_left worked_calls blank kept_blank) block refl
