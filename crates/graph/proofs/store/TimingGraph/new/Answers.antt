@@ -13,14 +13,14 @@ no_times k t h = none_live 256 k t (ap (λ xs. get_or xs k None) (sym (blank_slo
 
 pub invariant_of-result : goal.invariant_of-result
 invariant_of-result c = record {
-      room = omega arith;
-      numbered = (λ k e h. absurd (no_arcs k e h));
-      rising = (λ k e h. absurd (no_arcs k e h));
-      noded = (λ k e h. absurd (no_arcs k e h));
-      trimmed = (λ k e h. absurd (no_arcs k e h));
-      started = (λ k t h. absurd (no_times k t h));
-      ended = (λ k t h. absurd (no_times k t h));
-    }
+  room = omega arith;
+  numbered = (λ k e h. absurd (no_arcs k e h));
+  rising = (λ k e h. absurd (no_arcs k e h));
+  noded = (λ k e h. absurd (no_arcs k e h));
+  trimmed = (λ k e h. absurd (no_arcs k e h));
+  started = (λ k t h. absurd (no_times k t h));
+  ended = (λ k t h. absurd (no_times k t h));
+}
 
 pub returns : goal.returns
 unfolding blank
