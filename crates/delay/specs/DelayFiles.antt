@@ -1,6 +1,6 @@
 -- What a load of a delay file does to an annotated table.
 use Rattle.std.specs.Prelude.{◌≡◌, ℕ, ◌<◌, Bool, true, false, cond, ◌&&◌, ◌⊎◌, List, ◌∷◌, ◌++◌, length, ℤ, pos, Ok, Err, Result, ◌==◌, int_le, slice_index_or, slice_set, unsigned_abs}
-use Rattle.std.specs.List.{AllByRecursion as All}
+use Rattle.std.specs.List.{AllByRecursion}
 use Rattle.reader.specs.declared.records.Kind.TheVariants.{Delays}
 use Rattle.reader.specs.declared.records.Record.{Record}
 use Rattle.reader.specs.declared.records.Record.TheVariants.{Arc, Delay, Bound, Pair}
@@ -55,7 +55,7 @@ Names k (Bound a b c) = ⊥
 Names k (Pair a b c) = ⊥
 
 abbrev pub Unnamed : ℕ → List Record → Type 0
-Unnamed k lines = All (λ line. Names k line → ⊥) lines
+Unnamed k lines = AllByRecursion (λ line. Names k line → ⊥) lines
 
 -- the row of arc k was old and is new: the last line that names k stands, and a row that no line names is untouched
 abbrev pub Stands : ℕ → List Record → AnnotatedRow → AnnotatedRow → Type 0

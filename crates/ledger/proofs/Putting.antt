@@ -1,7 +1,7 @@
 -- A set holds an arc exactly when a pair accepted since the set was last empty had it on a live path.
 use Rattle.std.proofs.Common.{◌≡◌, ℕ, ◌+◌, ◌<◌, ◌⊎◌, List, [], ◌∷◌, ℤ, pos, Some, None, Ok, Err, Option, Result, sym, refl, ap, ◌∙◌, subst, inl, inr, ⊎_elim, arith, MatchResult}
 use Rattle.std.proofs.ByRecursion.{All-weaker}
-use Rattle.std.specs.List.{AllByRecursion as All}
+use Rattle.std.specs.List.{AllByRecursion}
 use Rattle.reader.specs.declared.records.Kind.TheVariants as kind
 use Rattle.reader.specs.declared.records.Side.TheVariants.{Start, End as Ending}
 use Rattle.reader.specs.declared.records.Record.{Record}
@@ -70,7 +70,7 @@ next : (r : Result Unit ℕ) (m : Block) (xs : List Record) (e : Option FileRefu
 next (Ok _) m xs e l b' q = (refl, q)
 next (Err i) m xs e l b' q = absurd (ok_err b' (i, l) q)
 
-same_lines : (b : Block) (xs : List Record) (e : Option FileRefusal) (l : ℕ) (b' : Block) → Kept b → All NoPair xs → Lines b xs e l (Ok b') → SameSets b b'
+same_lines : (b : Block) (xs : List Record) (e : Option FileRefusal) (l : ℕ) (b' : Block) → Kept b → AllByRecursion NoPair xs → Lines b xs e l (Ok b') → SameSets b b'
 same_lines b [] None l b' k f p = subst (SameSets b) (sym (ok_same b' b p)) (same_sets b)
 same_lines b [] (Some e) l b' k f p = absurd (ok_err b' _ p)
 same_lines b (x ∷ xs) e l b' k f p =
@@ -89,7 +89,7 @@ record Pairings (b : Block) (xs : List Record) (b' : Block) (s n : ℕ) : Type 0
 first_pair : (g u v : ℤ) (s from to : ℕ) → line.Pair g u v ≡ line.Pair (pos s) (pos from) (pos to) → (g ≡ pos s) × (u ≡ pos from) × (v ≡ pos to)
 first_pair g u v s from to h = ((cc), (cc), (cc))
 
-pair_lines : (b : Block) (xs : List Record) (e : Option FileRefusal) (l : ℕ) (b' : Block) → All (Fitting kind.FalseSets) xs → Lines b xs e l (Ok b')
+pair_lines : (b : Block) (xs : List Record) (e : Option FileRefusal) (l : ℕ) (b' : Block) → AllByRecursion (Fitting kind.FalseSets) xs → Lines b xs e l (Ok b')
     → (s n : ℕ) → s < 16 → Pairings b xs b' s n
 pair_lines b [] None l b' f p s n ls =
     let q = sym (ok_same b' b p) in

@@ -3,7 +3,7 @@ use Rattle.std.proofs.Common.{◌≡◌, ℕ, zero, suc, ◌<◌, ◌≤◌, Boo
 use mathlib.Core.List.Memᴰ
 use mathlib.Core.List.{Memᴰ}
 use lib.Dec.{eqb_refl}
-use Rattle.std.specs.List.{AllByRecursion as All}
+use Rattle.std.specs.List.{AllByRecursion}
 use Rattle.paths.specs.Rows.{Rows, Before}
 use Rattle.paths.specs.Sheets.{Told, nth, least, first_least}
 use Rattle.paths.proofs.RowLaws.{Laws, Fine, before_refl}
@@ -25,7 +25,7 @@ cond_true false x y h = absurd h
 pub eq_eqb : (a b : ℕ) → a ≡ b → T (eqb a b)
 eq_eqb a b e = subst (λ x. T (eqb a x)) e (eqb_refl a)
 
-pub all_in : {X : Type 0} (P : X → Type 0) (xs : List X) → All P xs → (x : X) → In x xs → P x
+pub all_in : {X : Type 0} (P : X → Type 0) (xs : List X) → AllByRecursion P xs → (x : X) → In x xs → P x
 all_in P [] h x i = in_nil x i
 all_in P (y ∷ ys) h x i = go (Memᴰ.cases_cons i) (λ j. all_in P ys h.1 x j)
   where
@@ -33,7 +33,7 @@ all_in P (y ∷ ys) h x i = go (Memᴰ.cases_cons i) (λ j. all_in P ys h.1 x j)
     go (inl e) f = subst P (sym e) h.0
     go (inr j) f = f j
 
-pub in_all : {X : Type 0} (P : X → Type 0) (xs : List X) → ((x : X) → In x xs → P x) → All P xs
+pub in_all : {X : Type 0} (P : X → Type 0) (xs : List X) → ((x : X) → In x xs → P x) → AllByRecursion P xs
 in_all P [] f = tt
 in_all P (y ∷ ys) f = (f y (Memᴰ.head refl), in_all P ys (λ x i. f x (Memᴰ.tail i)))
 
@@ -90,7 +90,7 @@ pub record Orders {X : Type 0} (First : X → X → Type 0) : Type 0 where
 
 abbrev pub Ascending : {X : Type 0} → (X → X → Type 0) → List X → Type 0
 Ascending First [] = Unit {0}
-Ascending First (c ∷ cs) = All (First c) cs × Ascending First cs
+Ascending First (c ∷ cs) = AllByRecursion (First c) cs × Ascending First cs
 
 pub append_ascending : {X : Type 0} (First : X → X → Type 0) (xs ys : List X) → Ascending First xs → Ascending First ys → ((x y : X) → In x xs → In y ys → First x y) → Ascending First (xs ++ ys)
 append_ascending First [] ys p q h = q
@@ -184,7 +184,7 @@ module _ {R : Type 0} {m : Rows R} (laws : Laws m) where
 
   -- where the rows told come by First, the chosen one wins over those no later
   module _ (First : Told R → Told R → Type 0) (orders : Orders First) where
-    least_wins : (a : Told R) (cs : List (Told R)) → ToldFine (a ∷ cs) → All (First a) cs → Ascending First cs → (x : Told R) → (x ≡ a) ⊎ In x cs → Before m x.row (least m a cs).row → First (least m a cs) x
+    least_wins : (a : Told R) (cs : List (Told R)) → ToldFine (a ∷ cs) → AllByRecursion (First a) cs → Ascending First cs → (x : Told R) → (x ≡ a) ⊎ In x cs → Before m x.row (least m a cs).row → First (least m a cs) x
     least_wins a [] fine f s x (inl e) h = subst (First a) (sym e) (orders.itself a)
     least_wins a [] fine f s x (inr i) h = in_nil x i
     least_wins a (c ∷ cs) fine f s x i h =
@@ -200,7 +200,7 @@ module _ {R : Type 0} {m : Rows R} (laws : Laws m) where
         fa = fine a (Memᴰ.head refl)
 
         Below : Type 0
-        Below = (z : Told R) → ToldFine (z ∷ cs) → All (First z) cs → (x ≡ z) ⊎ In x cs → Before m x.row (least m z cs).row → First (least m z cs) x
+        Below = (z : Told R) → ToldFine (z ∷ cs) → AllByRecursion (First z) cs → (x ≡ z) ⊎ In x cs → Before m x.row (least m z cs).row → First (least m z cs) x
 
         go : (t : Bool) → m.not_later a.row c.row ≡ t → (x ≡ a) ⊎ In x (c ∷ cs) → Before m x.row (least m (cond t a c) cs).row → Below
             → (Before m a.row (least m a cs).row → First (least m a cs) a) → First (least m (cond t a c) cs) x

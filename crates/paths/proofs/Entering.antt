@@ -1,7 +1,7 @@
 -- A line that enters the lines of its node: they stay sorted by tag, and of each tag the latest is there.
 use Rattle.std.proofs.Common.{◌≡◌, ℕ, ◌<◌, cond, not, T, ltb, ◌⊎◌, List, [], ◌∷◌, sym, refl, ap, ◌∙◌, subst, inl, inr, arith, ltb→lt, nltb→le, T_not}
 use mathlib.Core.List.Memᴰ
-use Rattle.std.specs.List.{AllByRecursion as All}
+use Rattle.std.specs.List.{AllByRecursion}
 use Rattle.paths.specs.Rows.{Rows, Before}
 use Rattle.paths.specs.Sheets.{Line, enter, entered}
 use Rattle.paths.proofs.RowLaws.{Laws, Fine, before_refl}
@@ -9,7 +9,7 @@ use Rattle.paths.proofs.Choosing.{Orders, Ascending, In, in_nil, by_cond, all_in
 
 abbrev pub ByTag : {R : Type 0} → List (Line R) → Type 0
 ByTag [] = Unit {0}
-ByTag (l ∷ ls) = All (λ k. l.tag < k.tag) ls × ByTag ls
+ByTag (l ∷ ls) = AllByRecursion (λ k. l.tag < k.tag) ls × ByTag ls
 
 module _ {R : Type 0} {m : Rows R} (laws : Laws m) where
   -- arrivals that the order's laws are about
@@ -46,7 +46,7 @@ module _ {R : Type 0} {m : Rows R} (laws : Laws m) where
       go (inl e) = subst (λ (z : Line R). Fine laws z.arrival) (sym e) fc
       go (inr j) = fine x j
 
-  enter_above : (d : ℕ) (c : Line R) (ls : List (Line R)) → d < c.tag → All (λ k. d < k.tag) ls → All (λ k. d < k.tag) (enter m c ls)
+  enter_above : (d : ℕ) (c : Line R) (ls : List (Line R)) → d < c.tag → AllByRecursion (λ k. d < k.tag) ls → AllByRecursion (λ k. d < k.tag) (enter m c ls)
   enter_above d c ls h all = in_all (λ k. d < k.tag) (enter m c ls) (λ x i. go x (enter_in c ls x i))
     where
       go : (x : Line R) → (x ≡ c) ⊎ In x ls → d < x.tag
@@ -62,7 +62,7 @@ module _ {R : Type 0} {m : Rows R} (laws : Laws m) where
       (λ k. (enter_above l.tag c ls (ltb→lt l.tag c.tag k) s.0, enter_sorted c ls s.1))
       (λ nk. by_cond ByTag (m.not_later c.arrival l.arrival) (l ∷ ls) (c ∷ ls)
       (λ _. s)
-      (λ _. (subst (λ t. All (λ k. t < k.tag) ls) (equal nh nk) s.0, s.1))))
+      (λ _. (subst (λ t. AllByRecursion (λ k. t < k.tag) ls) (equal nh nk) s.0, s.1))))
     where
       lower : c.tag < l.tag → (x : Line R) → In x ls → c.tag < x.tag
       lower h x i = omega (arith, all_in (λ k. l.tag < k.tag) ls s.0 x i)
@@ -109,7 +109,7 @@ module _ {R : Type 0} {m : Rows R} (laws : Laws m) (First : Line R → Line R �
       go (inl h) = absurd (T_not (m.not_later x y) n h)
       go (inr h) = h
 
-  enter_new : (c : Line R) (ls : List (Line R)) → Fine laws c.arrival → LinesFine laws ls → All (λ l. First l c) ls → Covered c (enter m c ls)
+  enter_new : (c : Line R) (ls : List (Line R)) → Fine laws c.arrival → LinesFine laws ls → AllByRecursion (λ l. First l c) ls → Covered c (enter m c ls)
   enter_new c [] fc fine f = covered_self c (c ∷ []) fc (Memᴰ.head refl)
   enter_new c (l ∷ ls) fc fine f =
       by_cond (Covered c) (ltb c.tag l.tag) (c ∷ (l ∷ ls)) (cond (ltb l.tag c.tag) (l ∷ enter m c ls) (cond (m.not_later c.arrival l.arrival) (l ∷ ls) (c ∷ ls)))

@@ -2,7 +2,7 @@
 use Rattle.std.proofs.Common.{◌≡◌, ℕ, ◌<◌, Bool, true, false, not, ◌&&◌, ◌||◌, T, ◌⊎◌, List, [], ◌∷◌, ◌++◌, sym, refl, ap, ◌∙◌, subst, inl, inr, append_assoc, T_not}
 use mathlib.Core.List.{nil≢cons, head-eq_of_cons-eq, tail-eq_of_cons-eq}
 use lib.Bits.{bit_or}
-use Rattle.std.specs.List.{AllByRecursion as All}
+use Rattle.std.specs.List.{AllByRecursion}
 use Rattle.std.proofs.ByRecursion.{All-append}
 use Rattle.paths.specs.Tags.{set_count, has}
 use Rattle.paths.specs.Blocks.{Arc, RowBlock, in_set, leaves, enters, is_begin, is_end, begin_sets, end_sets, pass, passes}
@@ -62,7 +62,7 @@ module _ {R : Type 0} (b : RowBlock R) where
   -- ---- tags are stretches
   -- from the tag s
   abbrev Since : ℕ → ℕ → List (Arc R) → Type 0
-  Since i s es = Ending b i es ⊎ (T (has s i) × All (λ e. T (in_set i e)) es)
+  Since i s es = Ending b i es ⊎ (T (has s i) × AllByRecursion (λ e. T (in_set i e)) es)
 
   no_ending : (i : ℕ) → Ending b i [] → ⊥
   no_ending i w = go w.front w.parts
@@ -77,18 +77,18 @@ module _ {R : Type 0} (b : RowBlock R) where
 
   -- an ending stretch starts with the first arc or later
   ending_less : (i : ℕ) (e : Arc R) (es : List (Arc R)) → Ending b i (e ∷ es)
-      → Ending b i es ⊎ (All (λ a. T (in_set i a)) (e ∷ es) × T (is_begin b i e.from))
+      → Ending b i es ⊎ (AllByRecursion (λ a. T (in_set i a)) (e ∷ es) × T (is_begin b i e.from))
   ending_less i e es w = go w.front w.parts
     where
-      go : (front : List (Arc R)) → (e ∷ es) ≡ front ++ (w.arc ∷ w.rest) → Ending b i es ⊎ (All (λ a. T (in_set i a)) (e ∷ es) × T (is_begin b i e.from))
-      go [] p = inr (subst (λ l. All (λ a. T (in_set i a)) l) (sym p) w.inside, subst (λ (a : Arc R). T (is_begin b i a.from)) (sym (head-eq_of_cons-eq p)) w.begins)
+      go : (front : List (Arc R)) → (e ∷ es) ≡ front ++ (w.arc ∷ w.rest) → Ending b i es ⊎ (AllByRecursion (λ a. T (in_set i a)) (e ∷ es) × T (is_begin b i e.from))
+      go [] p = inr (subst (λ l. AllByRecursion (λ a. T (in_set i a)) l) (sym p) w.inside, subst (λ (a : Arc R). T (is_begin b i a.from)) (sym (head-eq_of_cons-eq p)) w.begins)
       go (f ∷ fs) p = inl (record { front = fs; arc = w.arc; rest = w.rest; parts = tail-eq_of_cons-eq p; inside = w.inside; begins = w.begins })
 
   tags_from : (i : ℕ) → i < set_count → (es : List (Arc R)) (s t : ℕ) → Carries b s es t → T (has t i) → Since i s es
   tags_from i h [] s t c p = inr (subst (λ x. T (has x i)) (sym c) p, tt)
   tags_from i h (e ∷ es) s t c p = go (tags_from i h es (pass b s e) t c.1 p)
     where
-      under : All (λ a. T (in_set i a)) es → T (in_set i e) → T (has s i) ⊎ T (is_begin b i e.from) → Since i s (e ∷ es)
+      under : AllByRecursion (λ a. T (in_set i a)) es → T (in_set i e) → T (has s i) ⊎ T (is_begin b i e.from) → Since i s (e ∷ es)
       under all q (inl p') = inr (p', (q, all))
       under all q (inr z) = inl (record { front = []; arc = e; rest = es; parts = refl; inside = (q, all); begins = z })
 
@@ -105,7 +105,7 @@ module _ {R : Type 0} (b : RowBlock R) where
       tags_to i h es (pass b s e) t c.1 (inr (pass_to i s e h (or_left (has s i) (is_begin b i e.from) w.0) w.1.0, w.1.1))
   tags_to i h (e ∷ es) s t c (inl w) = tags_to i h es (pass b s e) t c.1 (go (ending_less i e es w))
     where
-      go : Ending b i es ⊎ (All (λ a. T (in_set i a)) (e ∷ es) × T (is_begin b i e.from)) → Since i (pass b s e) es
+      go : Ending b i es ⊎ (AllByRecursion (λ a. T (in_set i a)) (e ∷ es) × T (is_begin b i e.from)) → Since i (pass b s e) es
       go (inl v) = inl v
       go (inr v) = inr (pass_to i s e h (or_right (has s i) (is_begin b i e.from) v.1) v.0.0, v.0.1)
 
@@ -145,7 +145,7 @@ module _ {R : Type 0} (b : RowBlock R) where
 
   -- a stretch in set i that is under way and comes to where the set ends is not carried
   ended : (i : ℕ) → i < set_count → (e : Arc R) (es : List (Arc R)) (s t v : ℕ) → Leads b e.to es v → Carries b s (e ∷ es) t
-      → All (λ a. T (in_set i a)) (e ∷ es) → UnderWay b i s e.from → T (is_end b i v) → ⊥
+      → AllByRecursion (λ a. T (in_set i a)) (e ∷ es) → UnderWay b i s e.from → T (is_end b i v) → ⊥
   ended i h e [] s t v l c all w z = stopped b i s e h c.0 w all.0 (subst (λ x. T (is_end b i x)) (sym l) z)
   ended i h e (a ∷ es) s t v l c all w z =
       ended i h a es (pass b s e) t v l.2 c.1 all.1 (or_left (has (pass b s e) i) (is_begin b i a.from) (pass_to b i s e h w all.0)) z
@@ -156,7 +156,7 @@ module _ {R : Type 0} (b : RowBlock R) where
       let two = carries_split w.stretch w.back one.0 t one.2 in
       go w.stretch one.0 two.0 w.leads two.1 w.inside
     where
-      go : (stretch : List (Arc R)) (s r : ℕ) → Leads b w.first stretch w.last → Carries b s stretch r → All (λ e. T (in_set w.set e)) stretch → ⊥
+      go : (stretch : List (Arc R)) (s r : ℕ) → Leads b w.first stretch w.last → Carries b s stretch r → AllByRecursion (λ e. T (in_set w.set e)) stretch → ⊥
       go [] s r l d all = disjoint w.set w.last (subst (λ x. T (is_begin b w.set x)) l w.begins) w.ends
       go (e ∷ es') s r l d all =
           ended w.set w.set_below e es' s r w.last l.2 d all

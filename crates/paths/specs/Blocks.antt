@@ -1,7 +1,7 @@
 -- A block in rows: its live arcs, start and end times, and the false sets of the arcs. Nodes are numbered in the order in which they are worked.
 use Rattle.std.specs.Prelude.{ℕ, ◌<◌, Bool, false, not, ◌&&◌, ◌||◌, List, [], ◌∷◌, Option, ◌==◌, bit_and, bit_or}
 use mathlib.Core.List.{Memᴰ}
-use Rattle.std.specs.List.{AllByRecursion as All}
+use Rattle.std.specs.List.{AllByRecursion}
 use Rattle.paths.specs.Tags.{set_count, has, tag_of, apart}
 
 pub record Arc (R : Type 0) : Type 0 where
@@ -19,7 +19,7 @@ pub record RowBlock (R : Type 0) : Type 0 where
 -- the arcs stand by rising number
 abbrev pub ByNumber : {R : Type 0} → List (Arc R) → Type 0
 ByNumber [] = Unit {0}
-ByNumber (e ∷ es) = All (λ k. e.number < k.number) es × ByNumber es
+ByNumber (e ∷ es) = AllByRecursion (λ k. e.number < k.number) es × ByNumber es
 
 abbrev pub any : {X : Type 0} → (X → Bool) → List X → Bool
 any test [] = false

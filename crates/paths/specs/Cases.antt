@@ -1,6 +1,6 @@
 -- The worked cases of the two-selector block, as one table: calls on a new graph, an annotated delay table, and what timing then answers and shows.
 use Rattle.std.specs.Prelude.{◌≡◌, ℕ, zero, suc, Bool, true, List, [], ◌∷◌, map, ℤ, pos, negsuc, Some, None, Ok, Err, Option, Result}
-use Rattle.std.specs.List.{AllByRecursion as All}
+use Rattle.std.specs.List.{AllByRecursion}
 use Rattle.std.specs.declared.clone.Clone as clone
 use Rattle.measure.specs.Rows.{Row}
 use Rattle.measure.specs.Laws.{Laws}
@@ -196,4 +196,4 @@ AsksMet (call cs c) = Unit {0}
 AsksMet (margin p t) = Unit {0}
 
 abbrev pub CasesAreMet : Type 0
-CasesAreMet = All (λ c. AsksMet c.question) cases
+CasesAreMet = AllByRecursion (λ c. AsksMet c.question) cases

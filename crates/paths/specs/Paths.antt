@@ -1,6 +1,6 @@
 -- Paths of a block: which are open, and their slack. Nothing here speaks of tags but `Carries`.
 use Rattle.std.specs.Prelude.{◌≡◌, ℕ, ◌<◌, T, List, [], ◌∷◌, ◌++◌, map, Some, None, Option}
-use Rattle.std.specs.List.{AllByRecursion as All}
+use Rattle.std.specs.List.{AllByRecursion}
 use Rattle.paths.specs.Rows.{Rows, Before, minus}
 use Rattle.paths.specs.Tags.{set_count}
 use Rattle.paths.specs.Blocks.{Arc, RowBlock, Live, in_set, is_begin, is_end, pass, passes}
@@ -22,7 +22,7 @@ pub record Falsified {R : Type 0} (b : RowBlock R) (es : List (Arc R)) : Type 0 
   pub stretch : List (Arc R)
   pub back : List (Arc R)
   pub parts : es ≡ front ++ (stretch ++ back)
-  pub inside : All (λ e. T (in_set set e)) stretch
+  pub inside : AllByRecursion (λ e. T (in_set set e)) stretch
   pub first : ℕ
   pub last : ℕ
   pub leads : Leads b first stretch last
@@ -66,7 +66,7 @@ pub record Ending {R : Type 0} (b : RowBlock R) (i : ℕ) (es : List (Arc R)) : 
   pub arc : Arc R
   pub rest : List (Arc R)
   pub parts : es ≡ front ++ (arc ∷ rest)
-  pub inside : All (λ e. T (in_set i e)) (arc ∷ rest)
+  pub inside : AllByRecursion (λ e. T (in_set i e)) (arc ∷ rest)
   pub begins : T (is_begin b i arc.from)
 
 -- an arrival with tag s passes the arcs es undropped, and then has tag t

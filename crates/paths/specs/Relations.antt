@@ -1,7 +1,7 @@
 -- What is true of a sheet's lines, of a node's entry and of the path shown, for a block whose nodes are below n.
 use Rattle.std.specs.Prelude.{◌≡◌, ℕ, ◌<◌, ◌≤◌, T, ◌⊎◌, List, [], ◌∷◌, ◌++◌, Some, None, Option}
 use mathlib.Core.List.{Memᴰ}
-use Rattle.std.specs.List.{AllByRecursion as All}
+use Rattle.std.specs.List.{AllByRecursion}
 use Rattle.paths.specs.Rows.{Rows, minus}
 use Rattle.paths.specs.Blocks.{Arc, RowBlock, Live, pass, passes}
 use Rattle.paths.specs.Paths.{numbers, Through, slack}
@@ -14,7 +14,7 @@ Precedes l k = (l.node < k.node) ⊎ ((l.node ≡ k.node) × (l.tag < k.tag))
 
 abbrev pub InOrder : {R : Type 0} → List (Line R) → Type 0
 InOrder [] = Unit {0}
-InOrder (l ∷ ls) = All (Precedes l) ls × InOrder ls
+InOrder (l ∷ ls) = AllByRecursion (Precedes l) ls × InOrder ls
 
 -- ---- ties
 -- of the links over arc a from line i and over arc c from line j, the first wins or is the second: no link (a start, an end) first, then the lowest arc, then the lowest line

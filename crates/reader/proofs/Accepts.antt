@@ -1,6 +1,6 @@
 -- What is accepted is a good file. Assumes nothing.
 use Rattle.std.proofs.Common.{◌≡◌, ℕ, ◌+◌, ◌<◌, ◌≤◌, Bool, true, false, cond, eqb, ltb, List, [], ◌∷◌, ◌++◌, length, get_or, ℤ, pos, negsuc, nat_abs, Some, None, codes, decimal, Option, sym, refl, ap, ◌∙◌, subst, append_assoc, arith}
-use Rattle.std.specs.List.{flat_map, AllByRecursion as All}
+use Rattle.std.specs.List.{flat_map, AllByRecursion}
 use Rattle.std.specs.Fmt.{signed_decimal}
 use Rattle.std.proofs.lemmas.Slice.Eq.{bytes_eq-Decides}
 use Rattle.std.proofs.lemmas.Bool.{eqb-true, ltb-false}
@@ -149,7 +149,7 @@ pub record ReadAs (k : Kind) (e : Entry) (ns : List (List ℕ)) (l : ℕ) (ps : 
   pub fields : List (List (List ℕ))
   pub text : join_by 10 ps ≡ flat_map line_of fields ++ line_of (codes "end" ∷ decimal count ∷ [])
   pub lines : Lines e ns rs fields
-  pub fit : All (Fitting k) rs
+  pub fit : AllByRecursion (Fitting k) rs
   pub counts : count + 1 ≡ l + length rs
 
 module _ (k : Kind) (e : Entry) (ns : List (List ℕ)) where

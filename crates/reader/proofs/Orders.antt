@@ -2,7 +2,7 @@
 use Rattle.std.proofs.Common.{◌≡◌, ℕ, suc, Bool, true, false, cond, ◌||◌, ◌⊎◌, List, [], ◌∷◌, ◌++◌, length, Some, None, sym, refl, ap, subst, inl, inr, arith, length-append}
 use Rattle.std.specs.Option.{option_map}
 use Rattle.std.specs.List.Sorted.{IsPermutation}
-use Rattle.std.specs.List.{AllByRecursion as All}
+use Rattle.std.specs.List.{AllByRecursion}
 use Rattle.std.specs.Str.{bytes_eq}
 use Rattle.std.proofs.lemmas.Slice.Eq.{bytes_eq-Decides}
 use Rattle.std.proofs.lemmas.List.Sorted.{IsPermutation-refl, IsPermutation-sym, IsPermutation-cons, IsPermutation-swap, IsPermutation-trans, length_permutation}
@@ -20,17 +20,17 @@ Among q (n ∷ ns) = (n ≡ q) ⊎ Among q ns
 
 abbrev pub Distinct : List (List ℕ) → Type 0
 Distinct [] = Unit {0}
-Distinct (n ∷ ns) = All (λ q. q ≡ n → ⊥) ns × Distinct ns
+Distinct (n ∷ ns) = AllByRecursion (λ q. q ≡ n → ⊥) ns × Distinct ns
 
-pub both_all : {X : Type 0} (P Q R : X → Type 0) → ((x : X) → P x → Q x → R x) → (xs : List X) → All P xs → All Q xs → All R xs
+pub both_all : {X : Type 0} (P Q R : X → Type 0) → ((x : X) → P x → Q x → R x) → (xs : List X) → AllByRecursion P xs → AllByRecursion Q xs → AllByRecursion R xs
 both_all P Q R f [] a b = tt
 both_all P Q R f (x ∷ xs) a b = (f x a.0 b.0, both_all P Q R f xs a.1 b.1)
 
-pub all_self : (ns : List (List ℕ)) → All (λ q. Among q ns) ns
+pub all_self : (ns : List (List ℕ)) → AllByRecursion (λ q. Among q ns) ns
 all_self [] = tt
 all_self (n ∷ ns) = (inl refl, All-weaker (λ q. Among q ns) (λ q. Among q (n ∷ ns)) (λ q h. inr h) ns (all_self ns))
 
-pub all_at : (P : List ℕ → Type 0) (q : List ℕ) (ns : List (List ℕ)) → All P ns → Among q ns → P q
+pub all_at : (P : List ℕ → Type 0) (q : List ℕ) (ns : List (List ℕ)) → AllByRecursion P ns → Among q ns → P q
 all_at P q [] a h = absurd h
 all_at P q (n ∷ ns) a (inl e) = subst P e a.0
 all_at P q (n ∷ ns) a (inr h) = all_at P q ns a.1 h
@@ -49,11 +49,11 @@ true_among q [] h = absurd h
 true_among q (n ∷ ns) (inl e) = rw ((bytes_eq-Decides n q).1 e)
 true_among q (n ∷ ns) (inr h) = or_right (bytes_eq n q) (among q ns) (true_among q ns h)
 
-covers_all : (qs ns : List (List ℕ)) → All (λ q. Among q ns) qs → covers qs ns ≡ true
+covers_all : (qs ns : List (List ℕ)) → AllByRecursion (λ q. Among q ns) qs → covers qs ns ≡ true
 covers_all [] ns h = refl
 covers_all (q ∷ qs) ns h = and_from _ _ (true_among q ns h.0) (covers_all qs ns h.1)
 
-pub all_covered : (qs ns : List (List ℕ)) → covers qs ns ≡ true → All (λ q. Among q ns) qs
+pub all_covered : (qs ns : List (List ℕ)) → covers qs ns ≡ true → AllByRecursion (λ q. Among q ns) qs
 all_covered [] ns h = tt
 all_covered (q ∷ qs) ns h = let parts = and_parts _ _ h in (among_true q ns parts.0, all_covered qs ns parts.1)
 
@@ -73,11 +73,11 @@ among_other q h [] vs ne (inr a) = a
 among_other q h (u ∷ us) vs ne (inl e) = inl e
 among_other q h (u ∷ us) vs ne (inr a) = inr (among_other q h us vs ne a)
 
-all_insert : (P : List ℕ → Type 0) (h : List ℕ) (us vs : List (List ℕ)) → P h → All P (us ++ vs) → All P (us ++ (h ∷ vs))
+all_insert : (P : List ℕ → Type 0) (h : List ℕ) (us vs : List (List ℕ)) → P h → AllByRecursion P (us ++ vs) → AllByRecursion P (us ++ (h ∷ vs))
 all_insert P h [] vs p a = (p, a)
 all_insert P h (u ∷ us) vs p a = (a.0, all_insert P h us vs p a.1)
 
-distinct_insert : (h : List ℕ) (us vs : List (List ℕ)) → All (λ n. n ≡ h → ⊥) (us ++ vs) → Distinct (us ++ vs) → Distinct (us ++ (h ∷ vs))
+distinct_insert : (h : List ℕ) (us vs : List (List ℕ)) → AllByRecursion (λ n. n ≡ h → ⊥) (us ++ vs) → Distinct (us ++ vs) → Distinct (us ++ (h ∷ vs))
 distinct_insert h [] vs a d = (a, d)
 distinct_insert h (u ∷ us) vs a d = (all_insert (λ q. q ≡ u → ⊥) h us vs (λ e. a.0 (sym e)) d.0, distinct_insert h us vs a.1 d.1)
 
@@ -88,7 +88,7 @@ to_middle : (h : List ℕ) (us vs : List (List ℕ)) → IsPermutation (h ∷ (u
 to_middle h [] vs = IsPermutation-refl (h ∷ vs)
 to_middle h (u ∷ us) vs = IsPermutation-trans _ (u ∷ (h ∷ (us ++ vs))) _ (swapped h u (us ++ vs)) (IsPermutation-cons u _ _ (to_middle h us vs))
 
-pigeon : (hs ns : List (List ℕ)) → Distinct hs → All (λ q. Among q ns) hs → length ns ≡ length hs → IsPermutation hs ns × Distinct ns
+pigeon : (hs ns : List (List ℕ)) → Distinct hs → AllByRecursion (λ q. Among q ns) hs → length ns ≡ length hs → IsPermutation hs ns × Distinct ns
 pigeon [] [] d a e = (IsPermutation-refl [], tt)
 pigeon [] (n ∷ ns) d a e = absurd (omega arith)
 pigeon (h ∷ hs) ns d a e =
@@ -96,7 +96,7 @@ pigeon (h ∷ hs) ns d a e =
     let us = s.0 in
     let vs = s.1.0 in
     let is = s.1.1 in
-    let rest : All (λ q. Among q (us ++ vs)) hs = both_all (λ q. q ≡ h → ⊥) (λ q. Among q ns) (λ q. Among q (us ++ vs)) (λ q ne x. among_other q h us vs ne (subst (Among q) is x)) hs d.0 a.1 in
+    let rest : AllByRecursion (λ q. Among q (us ++ vs)) hs = both_all (λ q. q ≡ h → ⊥) (λ q. Among q ns) (λ q. Among q (us ++ vs)) (λ q ne x. among_other q h us vs ne (subst (Among q) is x)) hs d.0 a.1 in
     let long = simp length-append at (ap length is) in
     let found = pigeon hs (us ++ vs) d.1 rest (simp length-append (omega arith)) in
     subst (λ l. IsPermutation (h ∷ hs) l × Distinct l) (sym is)
@@ -130,7 +130,7 @@ chosen_way P e f es ns true is p h later = let same : e ≡ f = some_same e f h 
     some_same x y s = cc
 chosen_way P e f es ns false is p h later = later h
 
-pub chosen_from : (P : Entry → Type 0) (es : List Entry) (ns : List (List ℕ)) (f : Entry) → All P es → chosen es ns ≡ Some f → P f × (is_order (pieces 44 f.columns) ns ≡ true)
+pub chosen_from : (P : Entry → Type 0) (es : List Entry) (ns : List (List ℕ)) (f : Entry) → AllByRecursion P es → chosen es ns ≡ Some f → P f × (is_order (pieces 44 f.columns) ns ≡ true)
 chosen_from P [] ns f a h = absurd (none_some f h)
   where
     none_some : (x : Entry) → None ≡ Some x → ⊥

@@ -1,7 +1,7 @@
 -- What holds of each entry of the table of formats. Assumes nothing.
 use Rattle.std.proofs.Common.{◌≡◌, ℕ, zero, suc, ◌<◌, ◌≤◌, Bool, true, false, cond, not, ◌&&◌, eqb, List, [], ◌∷◌, length, get_or, take, Some, Option, unwrap_or, sym, refl, ap, ◌∙◌, subst, inl, inr, arith, lit<, lit≤}
 use Rattle.std.specs.List.Sorted.{IsPermutation}
-use Rattle.std.specs.List.{AllByRecursion as All}
+use Rattle.std.specs.List.{AllByRecursion}
 use Rattle.std.specs.Str.{bytes_eq}
 use Rattle.std.proofs.lemmas.Slice.Eq.{bytes_eq-Decides}
 use Rattle.std.proofs.lemmas.List.Sorted.{IsPermutation-sym, IsPermutation-trans}
@@ -18,7 +18,7 @@ use Rattle.reader.proofs.Orders.{Among, Distinct, chosen_from, order_is, order_f
 
 -- no comma and no byte 10
 abbrev pub Plain : List ℕ → Type 0
-Plain bs = All (λ b. (b ≡ 44 → ⊥) × (b ≡ 10 → ⊥)) bs
+Plain bs = AllByRecursion (λ b. (b ≡ 44 → ⊥) × (b ≡ 10 → ⊥)) bs
 
 -- the name of value i
 abbrev pub value_name : Entry → ℕ → List ℕ
@@ -26,11 +26,11 @@ value_name e i = get_or (pieces 44 e.values) i []
 
 pub record Sound (k : Kind) (e : Entry) : Type 0 where
   pub distinct : Distinct (pieces 44 e.columns)
-  pub plain : All Plain (pieces 44 e.columns)
+  pub plain : AllByRecursion Plain (pieces 44 e.columns)
   pub few : length (pieces 44 e.columns) ≤ 3
   pub named : arity k ≤ length (pieces 44 e.values)
   pub within : (i : ℕ) → i < arity k → Among (value_name e i) (pieces 44 e.columns)
-  pub onto : All (λ n. (i : ℕ) × ((i < arity k) × (value_name e i ≡ n))) (pieces 44 e.columns)
+  pub onto : AllByRecursion (λ n. (i : ℕ) × ((i < arity k) × (value_name e i ≡ n))) (pieces 44 e.columns)
 
 apart : (a b : List ℕ) → bytes_eq a b ≡ false → a ≡ b → ⊥
 apart a b f e = let t = (bytes_eq-Decides a b).1 e in let z : ◌≡◌ {A = ℕ} 0 1 = cc in omega arith
@@ -51,7 +51,7 @@ abbrev are_plain : List (List ℕ) → Bool
 are_plain [] = true
 are_plain (n ∷ ns) = is_plain n && are_plain ns
 
-all_plain : (ns : List (List ℕ)) → are_plain ns ≡ true → All Plain ns
+all_plain : (ns : List (List ℕ)) → are_plain ns ≡ true → AllByRecursion Plain ns
 all_plain [] h = tt
 all_plain (n ∷ ns) h = let parts = and_parts _ _ h in (plain_from n parts.0, all_plain ns parts.1)
 
@@ -73,13 +73,13 @@ module _ (k : Kind) (a b : List ℕ) (e : Entry) (two : arity k ≡ 2) (columns 
   two_columns ne plain =
       record {
         distinct = subst Distinct (sym columns) ((apart b a ne, tt), (tt, tt));
-        plain = subst (All Plain) (sym columns) (all_plain (a ∷ b ∷ []) plain);
+        plain = subst (AllByRecursion Plain) (sym columns) (all_plain (a ∷ b ∷ []) plain);
         few = omega (arith, ap length columns);
         named = omega (arith, ap length values, two);
         within = subst (λ n. (i : ℕ) → i < n → Among (value_name e i) (pieces 44 e.columns)) (sym two)
             (subst (λ cs. (i : ℕ) → i < 2 → Among (value_name e i) cs) (sym columns) (subst (λ vs. (i : ℕ) → i < 2 → Among (get_or vs i []) (a ∷ b ∷ [])) (sym values) (below_two _ (inl refl) (inr (inl refl)))));
-        onto = subst (λ n. All (λ q. (i : ℕ) × ((i < n) × (value_name e i ≡ q))) (pieces 44 e.columns)) (sym two)
-            (subst (λ cs. All (λ q. (i : ℕ) × ((i < 2) × (value_name e i ≡ q))) cs) (sym columns) ((0, (lit< tt, ap (λ vs. get_or vs 0 []) values)), ((1, (lit< tt, ap (λ vs. get_or vs 1 []) values)), tt)));
+        onto = subst (λ n. AllByRecursion (λ q. (i : ℕ) × ((i < n) × (value_name e i ≡ q))) (pieces 44 e.columns)) (sym two)
+            (subst (λ cs. AllByRecursion (λ q. (i : ℕ) × ((i < 2) × (value_name e i ≡ q))) cs) (sym columns) ((0, (lit< tt, ap (λ vs. get_or vs 0 []) values)), ((1, (lit< tt, ap (λ vs. get_or vs 1 []) values)), tt)));
       }
 
 module _ (k : Kind) (a b c : List ℕ) (e : Entry) (three : arity k ≡ 3) (columns : pieces 44 e.columns ≡ a ∷ b ∷ c ∷ []) (values : pieces 44 e.values ≡ a ∷ b ∷ c ∷ []) where
@@ -87,18 +87,18 @@ module _ (k : Kind) (a b c : List ℕ) (e : Entry) (three : arity k ≡ 3) (colu
   three_columns ba ca cb plain =
       record {
         distinct = subst Distinct (sym columns) ((apart b a ba, (apart c a ca, tt)), ((apart c b cb, tt), (tt, tt)));
-        plain = subst (All Plain) (sym columns) (all_plain (a ∷ b ∷ c ∷ []) plain);
+        plain = subst (AllByRecursion Plain) (sym columns) (all_plain (a ∷ b ∷ c ∷ []) plain);
         few = omega (arith, ap length columns);
         named = omega (arith, ap length values, three);
         within = subst (λ n. (i : ℕ) → i < n → Among (value_name e i) (pieces 44 e.columns)) (sym three)
             (subst (λ cs. (i : ℕ) → i < 3 → Among (value_name e i) cs) (sym columns)
             (subst (λ vs. (i : ℕ) → i < 3 → Among (get_or vs i []) (a ∷ b ∷ c ∷ [])) (sym values) (below_three _ (inl refl) (inr (inl refl)) (inr (inr (inl refl))))));
-        onto = subst (λ n. All (λ q. (i : ℕ) × ((i < n) × (value_name e i ≡ q))) (pieces 44 e.columns)) (sym three)
-            (subst (λ cs. All (λ q. (i : ℕ) × ((i < 3) × (value_name e i ≡ q))) cs) (sym columns)
+        onto = subst (λ n. AllByRecursion (λ q. (i : ℕ) × ((i < n) × (value_name e i ≡ q))) (pieces 44 e.columns)) (sym three)
+            (subst (λ cs. AllByRecursion (λ q. (i : ℕ) × ((i < 3) × (value_name e i ≡ q))) cs) (sym columns)
             ((0, (lit< tt, ap (λ vs. get_or vs 0 []) values)), ((1, (lit< tt, ap (λ vs. get_or vs 1 []) values)), ((2, (lit< tt, ap (λ vs. get_or vs 2 []) values)), tt))));
       }
 
-pub table : (k : Kind) → All (Sound k) (layouts k)
+pub table : (k : Kind) → AllByRecursion (Sound k) (layouts k)
 table Arcs = (two_columns Arcs _ _ _ refl refl refl refl refl, tt)
 table Delays = (two_columns Delays _ _ _ refl refl refl refl refl, tt)
 table Bounds = (three_columns Bounds _ _ _ _ refl refl refl refl refl refl refl, tt)
@@ -135,7 +135,7 @@ columns_of e = pieces 44 e.columns
 -- no entry names the columns of a later one
 abbrev Apart : List Entry → Type 0
 Apart [] = Unit {0}
-Apart (e ∷ es) = All (λ f. is_order (columns_of e) (columns_of f) ≡ false) es × Apart es
+Apart (e ∷ es) = AllByRecursion (λ f. is_order (columns_of e) (columns_of f) ≡ false) es × Apart es
 
 apart_table : (k : Kind) → Apart (layouts k)
 apart_table Arcs = (tt, tt)
@@ -143,12 +143,12 @@ apart_table Delays = (tt, tt)
 apart_table Bounds = (tt, tt)
 apart_table FalseSets = (tt, tt)
 
-pub one_of_all : (P : Entry → Type 0) (e : Entry) (es : List Entry) → All P es → OneOf e es → P e
+pub one_of_all : (P : Entry → Type 0) (e : Entry) (es : List Entry) → AllByRecursion P es → OneOf e es → P e
 one_of_all P e [] a h = absurd h
 one_of_all P e (f ∷ fs) a (inl s) = subst P (sym s) a.0
 one_of_all P e (f ∷ fs) a (inr h) = one_of_all P e fs a.1 h
 
-one_of_self : (es : List Entry) → All (λ e. OneOf e es) es
+one_of_self : (es : List Entry) → AllByRecursion (λ e. OneOf e es) es
 one_of_self [] = tt
 one_of_self (e ∷ es) = (inl refl, All-weaker (λ f. OneOf f es) (λ f. OneOf f (e ∷ es)) (λ f h. inr h) es (one_of_self es))
 
@@ -162,7 +162,7 @@ skipped : (t : Bool) (f : Entry) (o p : Option Entry) → (t ≡ true → ⊥) �
 skipped true f o p never h = absurd (never refl)
 skipped false f o p never h = h
 
-chosen_one : (es : List Entry) (e : Entry) (ns : List (List ℕ)) → Apart es → All (λ f. Distinct (columns_of f)) es → OneOf e es → IsPermutation (columns_of e) ns → chosen es ns ≡ Some e
+chosen_one : (es : List Entry) (e : Entry) (ns : List (List ℕ)) → Apart es → AllByRecursion (λ f. Distinct (columns_of f)) es → OneOf e es → IsPermutation (columns_of e) ns → chosen es ns ≡ Some e
 chosen_one [] e ns a d h s = absurd h
 chosen_one (f ∷ fs) e ns a d (inl is) s = rw (order_is (columns_of f) ns (subst (λ g. IsPermutation (columns_of g) ns) is s)) (ap (λ g. Some g) (sym is))
 chosen_one (f ∷ fs) e ns a d (inr h) s =

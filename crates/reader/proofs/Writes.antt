@@ -1,6 +1,6 @@
 -- A file as it is written is read as it was meant. Assumes nothing.
 use Rattle.std.proofs.Common.{◌≡◌, ℕ, zero, suc, ◌+◌, ◌<◌, ◌≤◌, Bool, true, false, cond, List, [], ◌∷◌, ◌++◌, length, get_or, take, drop, ℤ, pos, negsuc, nat_abs, Some, None, codes, decimal, Option, sym, refl, ap, ◌∙◌, subst, append_assoc, append-nil, arith, lit<, length-append, length-drop, take-append-drop}
-use Rattle.std.specs.List.{flat_map, AllByRecursion as All}
+use Rattle.std.specs.List.{flat_map, AllByRecursion}
 use Rattle.std.specs.Char.{is_ascii_digit}
 use Rattle.std.specs.Fmt.{signed_decimal}
 use Rattle.std.specs.Str.{all_ascii_digits, bytes_eq}
@@ -28,31 +28,31 @@ use Rattle.reader.proofs.Rows.{same_length_lem}
 use Rattle.reader.proofs.Table.{Plain, Sound, value_name, table, one_of_all, choice}
 
 -- ---- a text with no s in it, before an s and alone
-cut_after : (s : ℕ) (p rest : List ℕ) → All (λ b. b ≡ s → ⊥) p → pieces s (p ++ (s ∷ rest)) ≡ p ∷ pieces s rest
+cut_after : (s : ℕ) (p rest : List ℕ) → AllByRecursion (λ b. b ≡ s → ⊥) p → pieces s (p ++ (s ∷ rest)) ≡ p ∷ pieces s rest
 cut_after s [] rest h = rw (eq-eqb s s refl)
 cut_after s (b ∷ p) rest h = rw (ne_eqb b s h.0) (ap (longer b) (cut_after s p rest h.1))
 
-uncut : (s : ℕ) (p : List ℕ) → All (λ b. b ≡ s → ⊥) p → pieces s p ≡ p ∷ []
+uncut : (s : ℕ) (p : List ℕ) → AllByRecursion (λ b. b ≡ s → ⊥) p → pieces s p ≡ p ∷ []
 uncut s [] h = refl
 uncut s (b ∷ p) h = rw (ne_eqb b s h.0) (ap (longer b) (uncut s p h.1))
 
-no_comma : (p : List ℕ) → Plain p → All (λ b. b ≡ 44 → ⊥) p
+no_comma : (p : List ℕ) → Plain p → AllByRecursion (λ b. b ≡ 44 → ⊥) p
 no_comma p h = All-weaker _ _ (λ b x. x.0) p h
 
-no_newline : (p : List ℕ) → Plain p → All (λ b. b ≡ 10 → ⊥) p
+no_newline : (p : List ℕ) → Plain p → AllByRecursion (λ b. b ≡ 10 → ⊥) p
 no_newline p h = All-weaker _ _ (λ b x. x.1) p h
 
 -- the fields of a line, back
-fields_back : (f : List ℕ) (fs : List (List ℕ)) → All Plain (f ∷ fs) → pieces 44 (join_by 44 (f ∷ fs)) ≡ f ∷ fs
+fields_back : (f : List ℕ) (fs : List (List ℕ)) → AllByRecursion Plain (f ∷ fs) → pieces 44 (join_by 44 (f ∷ fs)) ≡ f ∷ fs
 fields_back f [] h = uncut 44 f (no_comma f h.0)
 fields_back f (g ∷ fs) h = cut_after 44 f (join_by 44 (g ∷ fs)) (no_comma f h.0) ∙ ap (λ l. f ∷ l) (fields_back g fs h.1)
 
-one_line : (fs : List (List ℕ)) → All Plain fs → All (λ b. b ≡ 10 → ⊥) (join_by 44 fs)
+one_line : (fs : List (List ℕ)) → AllByRecursion Plain fs → AllByRecursion (λ b. b ≡ 10 → ⊥) (join_by 44 fs)
 one_line [] h = tt
 one_line (f ∷ []) h = no_newline f h.0
 one_line (f ∷ g ∷ fs) h = All-append _ f (44 ∷ join_by 44 (g ∷ fs)) (no_newline f h.0) (λ e. omega arith, one_line (g ∷ fs) h.1)
 
-line_cut : (fs : List (List ℕ)) (rest : List ℕ) → All Plain fs → pieces 10 (line_of fs ++ rest) ≡ join_by 44 fs ∷ pieces 10 rest
+line_cut : (fs : List (List ℕ)) (rest : List ℕ) → AllByRecursion Plain fs → pieces 10 (line_of fs ++ rest) ≡ join_by 44 fs ∷ pieces 10 rest
 line_cut fs rest h = ap (pieces 10) (append_assoc (join_by 44 fs) (10 ∷ []) rest) ∙ cut_after 10 (join_by 44 fs) rest (one_line fs h)
 
 -- ---- what the text of a value is like: plain, and not `end`
@@ -79,9 +79,9 @@ letter_valued Start = (((λ e. omega arith, λ e. omega arith), tt), refl)
 letter_valued End = (((λ e. omega arith, λ e. omega arith), tt), refl)
 
 abbrev Shorts : Record → Type 0
-Shorts r = All (λ z. nat_abs z < 10000000) (numbers_of r)
+Shorts r = AllByRecursion (λ z. nat_abs z < 10000000) (numbers_of r)
 
-texts_valued : (r : Record) → Shorts r → All Valued (texts r)
+texts_valued : (r : Record) → Shorts r → AllByRecursion Valued (texts r)
 texts_valued (Arc a b) h = (signed_valued a h.0, (signed_valued b h.1.0, tt))
 texts_valued (Delay a b) h = (signed_valued a h.0, (signed_valued b h.1.0, tt))
 texts_valued (Bound a s b) h = (signed_valued a h.0, (letter_valued s, (signed_valued b h.1.0, tt)))
@@ -93,7 +93,7 @@ texts_long (Delay a b) = refl
 texts_long (Bound a s b) = refl
 texts_long (Pair a b c) = refl
 
-all_get_d : (P : List ℕ → Type 0) (xs : List (List ℕ)) (i : ℕ) → All P xs → i < length xs → P (get_or xs i [])
+all_get_d : (P : List ℕ → Type 0) (xs : List (List ℕ)) (i : ℕ) → AllByRecursion P xs → i < length xs → P (get_or xs i [])
 all_get_d P [] i a h = absurd (omega arith)
 all_get_d P (x ∷ xs) zero a h = a.0
 all_get_d P (x ∷ xs) (suc i) a h = all_get_d P xs i a.1 (omega arith)
@@ -111,7 +111,7 @@ under_head n f o y false e h = absurd (let u = (bytes_eq-Decides n n).1 refl in 
 abbrev Under : (List ℕ → Type 0) → List (List ℕ) → List (List ℕ) → List ℕ → Type 0
 Under P ns fs n = (y : List ℕ) × ((lookup n ns fs ≡ Some y) × P y)
 
-all_under : (P : List ℕ → Type 0) (ns fs : List (List ℕ)) → Distinct ns → length ns ≡ length fs → All (Under P ns fs) ns → All P fs
+all_under : (P : List ℕ → Type 0) (ns fs : List (List ℕ)) → Distinct ns → length ns ≡ length fs → AllByRecursion (Under P ns fs) ns → AllByRecursion P fs
 all_under P [] [] d l a = tt
 all_under P [] (f ∷ fs) d l a = absurd (omega arith)
 all_under P (n ∷ ns) [] d l a = absurd (omega arith)
@@ -122,8 +122,8 @@ all_under P (n ∷ ns) (f ∷ fs) d l a = (
 )
 
 module _ (k : Kind) (e : Entry) (ns : List (List ℕ)) (sound : Sound k e) (distinct : Distinct ns)
-    (onto : All (λ n. (i : ℕ) × ((i < arity k) × (value_name e i ≡ n))) ns) where
-  line_valued : (r : Record) (fs : List (List ℕ)) → Fitting k r → Line e ns r fs → All Valued fs
+    (onto : AllByRecursion (λ n. (i : ℕ) × ((i < arity k) × (value_name e i ≡ n))) ns) where
+  line_valued : (r : Record) (fs : List (List ℕ)) → Fitting k r → Line e ns r fs → AllByRecursion Valued fs
   line_valued r fs fit line =
       let stands : (n : List ℕ) → (i : ℕ) × ((i < arity k) × (value_name e i ≡ n)) → Under Valued ns fs n = λ n at.
       let l : at.0 < length (texts r) = omega (arith, at.1.0, texts_long r, ap arity fit.kind) in
@@ -168,11 +168,11 @@ record_back k e ns fs r fit line = rw (same_length_lem ns fs line.wide) (subst (
 abbrev end_line_of : ℕ → List ℕ
 end_line_of n = line_of (codes "end" ∷ decimal n ∷ [])
 
-end_plain : (count : ℕ) → count < 10000000 → All Plain (codes "end" ∷ decimal count ∷ [])
+end_plain : (count : ℕ) → count < 10000000 → AllByRecursion Plain (codes "end" ∷ decimal count ∷ [])
 end_plain count small = (((λ e. omega arith, λ e. omega arith), ((λ e. omega arith, λ e. omega arith), ((λ e. omega arith, λ e. omega arith), tt))), (plain_digits (decimal count) (all_digits count small), tt))
 
 module _ (k : Kind) (e : Entry) (n : List ℕ) (ns : List (List ℕ)) (sound : Sound k e) (distinct : Distinct (n ∷ ns))
-    (onto : All (λ q. (i : ℕ) × ((i < arity k) × (value_name e i ≡ q))) (n ∷ ns)) where
+    (onto : AllByRecursion (λ q. (i : ℕ) × ((i < arity k) × (value_name e i ≡ q))) (n ∷ ns)) where
   one_value : (r : Record) (fs : List (List ℕ)) (rest : List ℕ) (l : ℕ) → Fitting k r → Line e (n ∷ ns) r fs
       → body k e (n ∷ ns) l (pieces 10 (line_of fs ++ rest)) ≡ record { records = r ∷ (body k e (n ∷ ns) (l + 1) (pieces 10 rest)).records; ending = (body k e (n ∷ ns) (l + 1) (pieces 10 rest)).ending }
   one_value r [] rest l fit line = absurd (omega (arith, line.wide))
@@ -183,7 +183,7 @@ module _ (k : Kind) (e : Entry) (n : List ℕ) (ns : List (List ℕ)) (sound : S
       on_value k e (n ∷ ns) l (l + 1) (line_of (f ∷ fs) ++ rest) (join_by 44 (f ∷ fs)) rest (line_cut (f ∷ fs) rest plain) refl r
       (sym (ap first_is_end back ∙ valued.0.1)) (ap (record_of k e (n ∷ ns)) back ∙ record_back k e (n ∷ ns) (f ∷ fs) r fit line)
 
-  body_back : (rs : List Record) (fss : List (List (List ℕ))) (l count : ℕ) → All (Fitting k) rs → Lines e (n ∷ ns) rs fss → count < 10000000 → count + 1 ≡ l + length rs
+  body_back : (rs : List Record) (fss : List (List (List ℕ))) (l count : ℕ) → AllByRecursion (Fitting k) rs → Lines e (n ∷ ns) rs fss → count < 10000000 → count + 1 ≡ l + length rs
       → body k e (n ∷ ns) l (pieces 10 (flat_map line_of fss ++ end_line_of count)) ≡ record { records = rs; ending = None }
   body_back [] [] l count h lines small c =
       let p = join_by 44 (codes "end" ∷ decimal count ∷ []) in
@@ -219,7 +219,7 @@ good_accepted k rs bs good =
     accepted good.names (all_shuffled Plain cs good.names good.order sound.plain) (order_from cs good.names sound.distinct (order_is cs good.names good.order)).1 sound
     (all_shuffled _ cs good.names good.order sound.onto) (omega (arith, length_permutation cs good.names good.order, ap length (some_piece 44 e.columns).1.1)) refl
   where
-    accepted : (ns : List (List ℕ)) → All Plain ns → Distinct ns → Sound k good.entry → All (λ n. (i : ℕ) × ((i < arity k) × (value_name good.entry i ≡ n))) ns → 0 < length ns → ns ≡ good.names → scan k bs ≡ record { records = rs; ending = None }
+    accepted : (ns : List (List ℕ)) → AllByRecursion Plain ns → Distinct ns → Sound k good.entry → AllByRecursion (λ n. (i : ℕ) × ((i < arity k) × (value_name good.entry i ≡ n))) ns → 0 < length ns → ns ≡ good.names → scan k bs ≡ record { records = rs; ending = None }
     accepted [] plain distinct sound onto some is = absurd (omega arith)
     accepted (n ∷ ns) plain distinct sound onto some is =
         let e = good.entry in

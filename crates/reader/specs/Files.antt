@@ -1,6 +1,6 @@
 -- A file as it is written: a line of names, a line for each record, and the end line. Assumes nothing.
 use Rattle.std.specs.Prelude.{◌≡◌, ℕ, ◌<◌, ◌≤◌, ◌⊎◌, List, [], ◌∷◌, ◌++◌, length, take, ℤ, Some, None, codes, decimal, ◌≢◌, slice_index_or, unsigned_abs}
-use Rattle.std.specs.List.{flat_map, AllByRecursion as All}
+use Rattle.std.specs.List.{flat_map, AllByRecursion}
 use Rattle.std.specs.List.Sorted.{IsPermutation}
 use Rattle.std.specs.Fmt.{signed_decimal}
 use Rattle.reader.specs.declared.records.Kind.{Kind}
@@ -49,7 +49,7 @@ numbers_of (Pair set from to) = set ∷ from ∷ to ∷ []
 -- a record of the kind, with numbers of at most seven digits
 pub record Fitting (k : Kind) (r : Record) : Type 0 where
   pub kind : kind_of r ≡ k
-  pub numbers : All (λ z. unsigned_abs z < 10000000) (numbers_of r)
+  pub numbers : AllByRecursion (λ z. unsigned_abs z < 10000000) (numbers_of r)
 
 -- the fields of a value line: one under each name, and under the column of each value the value's text
 pub record Line (e : Entry) (names : List (List ℕ)) (r : Record) (fields : List (List ℕ)) : Type 0 where
@@ -73,7 +73,7 @@ pub record Good (k : Kind) (rs : List Record) (bs : List ℕ) : Type 0 where
   pub listed : OneOf entry (layouts k)
   pub names : List (List ℕ)
   pub order : IsPermutation (pieces 44 entry.columns) names
-  pub fitting : All (Fitting k) rs
+  pub fitting : AllByRecursion (Fitting k) rs
   pub fields : List (List (List ℕ))
   pub lines : Lines entry names rs fields
   pub whole : bs ≡ line_of names ++ (flat_map line_of fields ++ line_of (codes "end" ∷ decimal (length rs) ∷ []))

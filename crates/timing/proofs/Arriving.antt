@@ -1,6 +1,6 @@
 -- The arrivals of the model, as the pass computes them.
 use Rattle.std.proofs.Common.{◌≡◌, ℕ, zero, suc, ◌+◌, ◌-◌, ◌<◌, ◌≤◌, Bool, true, false, cond, eqb, ◌⊎◌, List, [], ◌∷◌, ◌++◌, length, get_or, take, drop, Some, None, Option, sym, refl, ap, ◌∙◌, ap₂, inl, inr, arith}
-use Rattle.std.specs.List.{AllByRecursion as All, flat_map}
+use Rattle.std.specs.List.{AllByRecursion, flat_map}
 use Rattle.std.proofs.lemmas.List.{append-nil, append_assoc, length-append, take_at, drop_at}
 use Rattle.std.proofs.ByRecursion.{All-append, All-weaker}
 use Rattle.std.proofs.lemmas.Bool.{ne_eqb, cases_eq}
@@ -21,12 +21,12 @@ use Rattle.timing.specs.Bringing.{AllReady, crossing_of, brought_over, brought}
 use Rattle.timing.proofs.Blocks.{Listed, all_listed, over_at, into_numbers, over_crossed}
 
 -- ---- lists
-pub all_get_d : {X : Type 0} (P : X → Type 0) (xs : List X) (i : ℕ) (d : X) → i < length xs → All P xs → P (get_or xs i d)
+pub all_get_d : {X : Type 0} (P : X → Type 0) (xs : List X) (i : ℕ) (d : X) → i < length xs → AllByRecursion P xs → P (get_or xs i d)
 all_get_d P [] i d h a = absurd (omega arith)
 all_get_d P (x ∷ xs) zero d h a = a.0
 all_get_d P (x ∷ xs) (suc i) d h a = all_get_d P xs i d (omega arith) a.1
 
-pub joined_same : {X : Type 0} (f g : ℕ → List X) (ks : List ℕ) → All (λ k. f k ≡ g k) ks → flat_map f ks ≡ flat_map g ks
+pub joined_same : {X : Type 0} (f g : ℕ → List X) (ks : List ℕ) → AllByRecursion (λ k. f k ≡ g k) ks → flat_map f ks ≡ flat_map g ks
 joined_same f g [] a = refl
 joined_same f g (k ∷ ks) a = ap₂ (λ x y. x ++ y) a.0 (joined_same f g ks a.1)
 
@@ -35,17 +35,17 @@ module _ {R : Type 0} (m : Rows R) (b : RowBlock R) (laws : Laws m) where
   abbrev pub lines_at : ℕ → List (sheets.Line R)
   lines_at v = entered m (candidates m b v) []
 
-  pub own_nodes : (v : ℕ) → All (λ (l : sheets.Line R). l.node ≡ v) (lines_at v)
+  pub own_nodes : (v : ℕ) → AllByRecursion (λ (l : sheets.Line R). l.node ≡ v) (lines_at v)
   own_nodes v = in_all (λ (l : sheets.Line R). l.node ≡ v) (lines_at v) (λ l i. (line_right m b v (arrivals_right m b laws v) l (fresh m b laws v l i)).0)
 
-  pub nodes_below : (v : ℕ) → All (λ (l : sheets.Line R). l.node < v) (arrivals m b v)
+  pub nodes_below : (v : ℕ) → AllByRecursion (λ (l : sheets.Line R). l.node < v) (arrivals m b v)
   nodes_below v = in_all (λ (l : sheets.Line R). l.node < v) (arrivals m b v) (λ l i. (arrivals_right m b laws v l i).node_below)
 
   -- the lines of the nodes above u and below v
   pub record Later (u v : ℕ) : Type 0 where
     pub lines : List (sheets.Line R)
     pub parts : arrivals m b v ≡ (arrivals m b u ++ lines_at u) ++ lines
-    pub above : All (λ (l : sheets.Line R). u < l.node) lines
+    pub above : AllByRecursion (λ (l : sheets.Line R). u < l.node) lines
 
   pub later : (u v : ℕ) → u < v → Later u v
   later u zero h = absurd (omega arith)
@@ -87,7 +87,7 @@ module _ {R : Type 0} (m : Rows R) (b : RowBlock R) (laws : Laws m) where
       go true false r = r ∙ ap (λ n. first ++ over m b e n ys) z
       go false q r = r ∙ ap (λ n. first ++ over m b e n ys) z
 
-  over_none : (e : Arc R) (i : ℕ) (ls : List (sheets.Line R)) → All (λ (l : sheets.Line R). l.node ≡ e.from → ⊥) ls → over m b e i ls ≡ []
+  over_none : (e : Arc R) (i : ℕ) (ls : List (sheets.Line R)) → AllByRecursion (λ (l : sheets.Line R). l.node ≡ e.from → ⊥) ls → over m b e i ls ≡ []
   over_none e i [] a = refl
   over_none e i (l ∷ ls) a =
       ap (λ t. cond t (cond (passes b l.tag e) (sent m b e i l ∷ over m b e (suc i) ls) (over m b e (suc i) ls)) (over m b e (suc i) ls)) (ne_eqb l.node e.from a.0)

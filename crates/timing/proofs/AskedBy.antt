@@ -1,7 +1,7 @@
 -- What the lines beyond its arcs ask of a line: the model's words, and the tables' marks.
 use Rattle.std.proofs.Common.{◌≡◌, ℕ, zero, suc, ◌+◌, ◌-◌, ◌<◌, ◌≤◌, Bool, true, false, cond, eqb, List, [], ◌∷◌, ◌++◌, map, length, get_or, take, drop, Some, None, Option, sym, refl, ap, ◌∙◌, subst, ap₂, inl, inr, arith}
 use lib.Bits.{bit_and, bit_or}
-use Rattle.std.specs.List.{AllByRecursion as All, flat_map}
+use Rattle.std.specs.List.{AllByRecursion, flat_map}
 use Rattle.std.proofs.lemmas.List.{append-nil, append_assoc, length-append, length-drop, drop-append-le, drop_at, drop-drop, drop-map}
 use Rattle.std.proofs.ByRecursion.{All-drop, All-weaker}
 use Rattle.std.proofs.lemmas.Bool.{eq-eqb, eqb-true}
@@ -52,7 +52,7 @@ module _ {R : Type 0} (m : Rows R) (b : RowBlock R) where
     abbrev Other : sheets.Line R → Type 0
     Other p = p.node ≡ x.to → p.tag ≡ pass b l.tag x → ⊥
 
-    over_others : (k : ℕ) (ps qs : List (sheets.Line R)) → All Other ps → asked_over m b l x k (timed m b k (ps ++ qs)) ≡ asked_over m b l x (k + length ps) (timed m b (k + length ps) qs)
+    over_others : (k : ℕ) (ps qs : List (sheets.Line R)) → AllByRecursion Other ps → asked_over m b l x k (timed m b k (ps ++ qs)) ≡ asked_over m b l x (k + length ps) (timed m b (k + length ps) qs)
     over_others k [] qs a = let z : k ≡ k + 0 = omega arith in ap (λ n. asked_over m b l x n (timed m b n qs)) z
     over_others k (p ∷ ps) qs a =
         go (eqb p.node x.to) (eqb p.tag (pass b l.tag x)) (asks m x k (asked_here p k (timed m b (suc k) (ps ++ qs)))) refl refl (over_others (suc k) ps qs a.1)
@@ -71,12 +71,12 @@ module _ {R : Type 0} (m : Rows R) (b : RowBlock R) where
         go true false own e f r = r ∙ ap to_go z
         go false t own e f r = r ∙ ap to_go z
 
-    over_none : (k : ℕ) (ps : List (sheets.Line R)) → All Other ps → asked_over m b l x k (timed m b k ps) ≡ []
+    over_none : (k : ℕ) (ps : List (sheets.Line R)) → AllByRecursion Other ps → asked_over m b l x k (timed m b k ps) ≡ []
     over_none k ps a = ap (λ ls. asked_over m b l x k (timed m b k ls)) (sym (append-nil ps)) ∙ over_others k ps [] a
 
     -- of the lines ns of the node that the arc leads to, one at most has the tag
     over_own : (h : Crossing R) → ((k : ℕ) (o : Option (sheets.Told R)) → asks m x k o ≡ as_list (ask_of m h k o)) → (k : ℕ) (ns qs : List (sheets.Line R)) → InOrder (ns ++ qs)
-        → All (λ (p : sheets.Line R). p.node ≡ x.to) ns → All (λ (p : sheets.Line R). p.node ≡ x.to → ⊥) qs
+        → AllByRecursion (λ (p : sheets.Line R). p.node ≡ x.to) ns → AllByRecursion (λ (p : sheets.Line R). p.node ≡ x.to → ⊥) qs
         → asked_over m b l x k (timed m b k (ns ++ qs)) ≡ as_list (asked_of m h (pass b l.tag x) k (take (length ns) (map mark (timed m b k (ns ++ qs)))))
     over_own h same k [] qs o a z = over_none k qs (All-weaker (λ (p : sheets.Line R). p.node ≡ x.to → ⊥) Other (λ p f e _. f e) qs z)
     over_own h same k (n ∷ ns) qs o a z =
@@ -121,7 +121,7 @@ module _ {R : Type 0} (m : Rows R) (b : RowBlock R) where
         let parts : arrivals m b n ≡ A ++ (N ++ Q) = k.parts ∙ append_assoc A N Q in
         let P = drop i A in
         let z : i + length P ≡ length A = omega (arith, length-drop i A) in
-        let before : All (λ (p : sheets.Line R). p.node < u) A = in_all (λ (p : sheets.Line R). p.node < u) A (λ p j. (arrivals_right m b laws u p j).node_below) in
+        let before : AllByRecursion (λ (p : sheets.Line R). p.node < u) A = in_all (λ (p : sheets.Line R). p.node < u) A (λ p j. (arrivals_right m b laws u p j).node_below) in
         ap (λ ls. asked_over m b l x i (timed m b i ls)) (ap (drop i) parts ∙ drop-append-le i A (N ++ Q) le)
         ∙ over_others i P (N ++ Q) (All-weaker (λ (p : sheets.Line R). p.node < u) Other (λ p q e _. omega (arith, q, e)) P (All-drop (λ (p : sheets.Line R). p.node < u) i A before))
         ∙ ap (λ j. asked_over m b l x j (timed m b j (N ++ Q))) z

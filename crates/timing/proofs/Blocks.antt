@@ -1,7 +1,7 @@
 -- What the tables stand for, in the model's words.
 use Rattle.std.proofs.Common.{◌≡◌, ℕ, zero, suc, ◌+◌, ◌*◌, ◌<◌, Bool, true, false, cond, not, ◌&&◌, ◌||◌, eqb, List, [], ◌∷◌, ◌++◌, get_or, Some, None, Option, sym, refl, ap, ◌∙◌, ap₂, arith}
 use lib.Bits.{bit_and, bit_or}
-use Rattle.std.specs.List.{AllByRecursion as All, flat_map}
+use Rattle.std.specs.List.{AllByRecursion, flat_map}
 use Rattle.std.proofs.lemmas.Bool.{eq-eqb, eqb-true}
 use Rattle.graph.specs.declared.parts.LiveArc.{LiveArc}
 use Rattle.graph.specs.declared.parts.ArcEnd.{ArcEnd}
@@ -59,12 +59,12 @@ pub record Numbered (end : ArcEnd) (v i : ℕ) (os : List (Option LiveArc)) (k :
   pub at : node_at end arc ≡ v
 
 module _ (end : ArcEnd) (v : ℕ) where
-  further : (i : ℕ) (o : Option LiveArc) (os : List (Option LiveArc)) (ks : List ℕ) → All (Numbered end v (suc i) os) ks → All (Numbered end v i (o ∷ os)) ks
+  further : (i : ℕ) (o : Option LiveArc) (os : List (Option LiveArc)) (ks : List ℕ) → AllByRecursion (Numbered end v (suc i) os) ks → AllByRecursion (Numbered end v i (o ∷ os)) ks
   further i o os [] a = tt
   further i o os (k ∷ ks) a =
       (record { place = suc a.0.place; place_is = omega (arith, a.0.place_is); arc = a.0.arc; live = a.0.live; at = a.0.at }, further i o os ks a.1)
 
-  pub all_numbered : (i : ℕ) (os : List (Option LiveArc)) → All (Numbered end v i os) (numbers_at end v i os)
+  pub all_numbered : (i : ℕ) (os : List (Option LiveArc)) → AllByRecursion (Numbered end v i os) (numbers_at end v i os)
   all_numbered i [] = tt
   all_numbered i (None ∷ os) = further i None os (numbers_at end v (suc i) os) (all_numbered (suc i) os)
   all_numbered i (Some e ∷ os) = go (eqb (node_at end e) v) refl (further i (Some e) os (numbers_at end v (suc i) os) (all_numbered (suc i) os))
@@ -72,7 +72,7 @@ module _ (end : ArcEnd) (v : ℕ) where
       rest : List ℕ
       rest = numbers_at end v (suc i) os
 
-      go : (t : Bool) → eqb (node_at end e) v ≡ t → All (Numbered end v i (Some e ∷ os)) rest → All (Numbered end v i (Some e ∷ os)) (cond t (i ∷ rest) rest)
+      go : (t : Bool) → eqb (node_at end e) v ≡ t → AllByRecursion (Numbered end v i (Some e ∷ os)) rest → AllByRecursion (Numbered end v i (Some e ∷ os)) (cond t (i ∷ rest) rest)
       go true q a = (record { place = 0; place_is = omega arith; arc = e; live = refl; at = eqb-true (node_at end e) v q }, a)
       go false q a = a
 
@@ -82,10 +82,10 @@ module _ (end : ArcEnd) (v : ℕ) where
     pub live : get_or os k None ≡ Some arc
     pub at : node_at end arc ≡ v
 
-  pub all_listed : (os : List (Option LiveArc)) → All (Listed os) (numbers_at end v 0 os)
+  pub all_listed : (os : List (Option LiveArc)) → AllByRecursion (Listed os) (numbers_at end v 0 os)
   all_listed os = go (numbers_at end v 0 os) (all_numbered 0 os)
     where
-      go : (ks : List ℕ) → All (Numbered end v 0 os) ks → All (Listed os) ks
+      go : (ks : List ℕ) → AllByRecursion (Numbered end v 0 os) ks → AllByRecursion (Listed os) ks
       go [] a = tt
       go (k ∷ ks) a =
           let z : k ≡ a.0.place = omega (arith, a.0.place_is) in
@@ -123,7 +123,7 @@ module _ {R : Type 0} (m : Rows R) (b : RowBlock R) (rows : List R) where
 
   -- over an arc, from the lines of the node that it leaves
   pub over_crossed : (arcs : List (Option LiveArc)) (firsts : List ℕ) (k : ℕ) (e : LiveArc) (i : ℕ) (ls : List (Line R)) → b.arcs ≡ arcs_with m.origin rows 0 arcs
-      → All (λ (l : Line R). l.node ≡ e.from) ls → over m b (arc_with m.origin rows k e) i ls ≡ crossed m (crossing_of m arcs rows firsts k e) i ls
+      → AllByRecursion (λ (l : Line R). l.node ≡ e.from) ls → over m b (arc_with m.origin rows k e) i ls ≡ crossed m (crossing_of m arcs rows firsts k e) i ls
   unfolding pass passes
   over_crossed arcs firsts k e i [] q a = refl
   over_crossed arcs firsts k e i (l ∷ ls) q a =

@@ -1,7 +1,7 @@
 -- A table of lines whose columns are those of a sheet.
 use Rattle.std.proofs.Common.{◌≡◌, ℕ, zero, suc, ◌<◌, ◌≤◌, Bool, true, List, [], ◌∷◌, ◌++◌, map, length, get_or, Some, None, Option, sym, refl, ap, ◌∙◌, subst, ap₂, ⊎_elim, arith}
 use mathlib.Core.List.Memᴰ
-use Rattle.std.specs.List.{AllByRecursion as All}
+use Rattle.std.specs.List.{AllByRecursion}
 use Rattle.std.proofs.lemmas.List.{length-append, length-map, take_all, get_or-map}
 use Rattle.std.proofs.lemmas.Bool.{cases_lt}
 use Rattle.measure.specs.Rows.{Row, Bounded}
@@ -107,18 +107,18 @@ module _ {R : Type 0} where
   node_in_front (a ∷ A) B zero h = refl
   node_in_front (a ∷ A) B (suc i) h = node_in_front A B i (omega arith)
 
-  node_of_all : (P : ℕ → Type 0) (A : List (sheets.Line R)) (i : ℕ) → All (λ (l : sheets.Line R). P l.node) A → i < length A → P (node_at A i)
+  node_of_all : (P : ℕ → Type 0) (A : List (sheets.Line R)) (i : ℕ) → AllByRecursion (λ (l : sheets.Line R). P l.node) A → i < length A → P (node_at A i)
   node_of_all P [] i a h = absurd (omega arith)
   node_of_all P (l ∷ A) zero a h = a.0
   node_of_all P (l ∷ A) (suc i) a h = node_of_all P A i a.1 (omega arith)
 
-  node_behind : (P : ℕ → Type 0) (A B : List (sheets.Line R)) (i : ℕ) → All (λ (l : sheets.Line R). P l.node) B → length A ≤ i → i < length (A ++ B) → P (node_at (A ++ B) i)
+  node_behind : (P : ℕ → Type 0) (A B : List (sheets.Line R)) (i : ℕ) → AllByRecursion (λ (l : sheets.Line R). P l.node) B → length A ≤ i → i < length (A ++ B) → P (node_at (A ++ B) i)
   node_behind P [] B i a g h = node_of_all P B i a h
   node_behind P (l ∷ A) B zero a g h = absurd (omega arith)
   node_behind P (l ∷ A) B (suc i) a g h = node_behind P A B i a (omega arith) (omega arith)
 
   -- v's lines stand between those of lower and of higher nodes
-  module _ (v : ℕ) (A L B : List (sheets.Line R)) (low : All (λ (l : sheets.Line R). l.node < v) A) (own : All (λ (l : sheets.Line R). l.node ≡ v) L) (high : All (λ (l : sheets.Line R). v < l.node) B) where
+  module _ (v : ℕ) (A L B : List (sheets.Line R)) (low : AllByRecursion (λ (l : sheets.Line R). l.node < v) A) (own : AllByRecursion (λ (l : sheets.Line R). l.node ≡ v) L) (high : AllByRecursion (λ (l : sheets.Line R). v < l.node) B) where
     own_inside : (i : ℕ) → length A ≤ i → i < length (A ++ L) → node_at ((A ++ L) ++ B) i ≡ v
     own_inside i g h = node_in_front (A ++ L) B i h ∙ node_behind (λ n. n ≡ v) A L i own g h
 

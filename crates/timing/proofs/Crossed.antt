@@ -2,7 +2,7 @@
 use Rattle.std.proofs.Common.{◌≡◌, ℕ, zero, suc, ◌+◌, ◌-◌, ◌<◌, ◌≤◌, Bool, true, false, cond, List, [], ◌∷◌, ◌++◌, length, get_or, take, drop, Some, None, Option, sym, refl, ap, ◌∙◌, subst, ap₂, arith, take-add}
 use lib.Bits.{bit_and}
 use borrow.Rule.Slice.PartMut.{put_mid}
-use Rattle.std.specs.List.{AllByRecursion as All}
+use Rattle.std.specs.List.{AllByRecursion}
 use Rattle.std.proofs.lemmas.List.{take_at, drop_at, take_rest, drop_all, drop-drop, append-nil, length-take-le, length-drop, length-append}
 use Rattle.std.proofs.lemmas.Bool.{eq-eqb, ne_eqb}
 use Rattle.paths.specs.Rows.{Rows}
@@ -72,7 +72,7 @@ module _ {M R : Type 0} (row : M → R) where
   front_at (suc base) zero (l ∷ ls) (x ∷ xs) y h b e r = ap (λ z. view row l z ∷ []) (sym r)
   front_at (suc base) (suc i) (l ∷ ls) (x ∷ xs) y h b e r = front_at base i ls xs y (omega arith) (omega arith) (omega arith) r
 
-  pub all_at : (P : sheets.Line R → Type 0) (base i : ℕ) (ls : List Line) (xs : List M) (y : M) → i < base → base ≤ length ls → length xs ≡ length ls → y ≡ get_or xs i y → All P (front row base ls xs) → P (view row (get_or ls i past_line) y)
+  pub all_at : (P : sheets.Line R → Type 0) (base i : ℕ) (ls : List Line) (xs : List M) (y : M) → i < base → base ≤ length ls → length xs ≡ length ls → y ≡ get_or xs i y → AllByRecursion P (front row base ls xs) → P (view row (get_or ls i past_line) y)
   all_at P zero i ls xs y h b e r a = absurd (omega arith)
   all_at P (suc base) i [] xs y h b e r a = absurd (omega arith)
   all_at P (suc base) i (l ∷ ls) [] y h b e r a = absurd (omega arith)

@@ -1,6 +1,6 @@
 -- The steps of the required pass, from the last line back.
 use Rattle.std.proofs.Common.{◌≡◌, ℕ, zero, suc, ◌+◌, ◌-◌, ◌<◌, ◌≤◌, Bool, true, List, [], ◌∷◌, ◌++◌, map, length, get_or, drop, set, Some, None, Option, sym, refl, ap, ◌∙◌, subst, ap₂, arith}
-use Rattle.std.specs.List.{AllByRecursion as All, flat_map}
+use Rattle.std.specs.List.{AllByRecursion, flat_map}
 use Rattle.std.proofs.lemmas.List.{append_assoc, length-map, length-drop, take_all, drop_all, drop_at, drop_more, drop-set, drop-map, map-set, set-get_or, get_or-map, get_or-drop, get_or_append_left}
 use Rattle.measure.specs.Rows.{Row, Bounded}
 use Rattle.measure.specs.Laws.{Order}
@@ -53,7 +53,7 @@ module _ {M R : Type 0} (row : M → R) (zero_row : R) where
   marks_written (t ∷ ts) (y ∷ ys) e = ap₂ (λ a cs. a ∷ cs) (mark_written t.line t.required y (cc)) (marks_written ts ys (cc))
 
   -- what holds of the required times of written lines
-  pub asks_written : (P : R → Type 0) (ts : List (sheets.Timed R)) (ys : List M) → map row ys ≡ map (required_of zero_row) ts → All (λ (t : sheets.Timed R). (z : sheets.Told R) → t.required ≡ Some z → P z.row) ts
+  pub asks_written : (P : R → Type 0) (ts : List (sheets.Timed R)) (ys : List M) → map row ys ≡ map (required_of zero_row) ts → AllByRecursion (λ (t : sheets.Timed R). (z : sheets.Told R) → t.required ≡ Some z → P z.row) ts
       → (j : ℕ) (y : M) → j < length ts → y ≡ get_or ys j y → (get_or (map line_of ts) j past_line).required ≡ true → P (row y)
   asks_written P [] ys e a j y h q r = absurd (omega arith)
   asks_written P (t ∷ ts) [] e a j y h q r = absurd (let z = ap length e in omega arith)
@@ -167,7 +167,7 @@ module _ {M : Type 0} (w : ℕ) (row : M → Row w) (not_later : Row w → Row w
   abbrev ms : Rows (Row w)
   ms = measured w not_later
 
-  pub sheet_near : All (λ (t : sheets.Timed (Row w)). (z : sheets.Told (Row w)) → t.required ≡ Some z → Bounded w 256000000 z.row) (sheet ms b n)
+  pub sheet_near : AllByRecursion (λ (t : sheets.Timed (Row w)). (z : sheets.Told (Row w)) → t.required ≡ Some z → Bounded w 256000000 z.row) (sheet ms b n)
   sheet_near =
       in_all (λ (t : sheets.Timed (Row w)). (z : sheets.Told (Row w)) → t.required ≡ Some z → Bounded w 256000000 z.row) (sheet ms b n)
       (λ t i z e. far_bounded w 256000000 z.row (required_near ms b n (given w not_later order b n sound) t z i e))
@@ -178,9 +178,9 @@ module _ {M : Type 0} (w : ℕ) (row : M → Row w) (not_later : Row w → Row w
       let T = timed ms b i (drop i A) in
       let P : Row w → Type 0 = Bounded w 256000000 in
       let z : i + (j - i) ≡ j = omega arith in
-      let near : All (λ (t : sheets.Timed (Row w)). (z : sheets.Told (Row w)) → t.required ≡ Some z → P z.row) T =
+      let near : AllByRecursion (λ (t : sheets.Timed (Row w)). (z : sheets.Told (Row w)) → t.required ≡ Some z → P z.row) T =
       let s : drop i (sheet ms b n) ≡ T = timed_drop ms b i 0 A ∙ (let o : 0 + i ≡ i = omega arith in ap (λ k. timed ms b k (drop i A)) o) in
-      subst (λ ts. All (λ (t : sheets.Timed (Row w)). (z : sheets.Told (Row w)) → t.required ≡ Some z → P z.row) ts) s (All-drop (λ (t : sheets.Timed (Row w)). (z : sheets.Told (Row w)) → t.required ≡ Some z → P z.row) i (sheet ms b n) sheet_near) in
+      subst (λ ts. AllByRecursion (λ (t : sheets.Timed (Row w)). (z : sheets.Told (Row w)) → t.required ≡ Some z → P z.row) ts) s (All-drop (λ (t : sheets.Timed (Row w)). (z : sheets.Told (Row w)) → t.required ≡ Some z → P z.row) i (sheet ms b n) sheet_near) in
       let count : length ls - i ≡ length T = sym (length-drop i ls) ∙ ap length r.lines ∙ length-map T line_of in
       asks_written row ms.origin P T (drop i ys) r.rows near (j - i) y (omega arith)
       (q ∙ ap (λ k. get_or ys k y) (sym z) ∙ sym (get_or-drop i ys (j - i) y))

@@ -1,6 +1,6 @@
 -- The arrivals that an arc brings from the lines of its tail.
 use Rattle.std.specs.Prelude.{ℕ, suc, cond, List, [], ◌∷◌, bit_and, bit_or}
-use Rattle.std.specs.List.{AllByRecursion as All}
+use Rattle.std.specs.List.{AllByRecursion}
 use Rattle.measure.specs.Rows.{Row, Bounded}
 use Rattle.paths.specs.Rows.{Rows}
 use Rattle.paths.specs.Tags.{apart}
@@ -26,4 +26,4 @@ crossed m h i (l ∷ ls) = let rest = crossed m h (suc i) ls in cond (apart (cro
 
 -- each arrival lies within k of zero
 abbrev pub Near : (w k : ℕ) → List (sheets.Line (Row w)) → Type 0
-Near w k ls = All (λ l. Bounded w k l.arrival) ls
+Near w k ls = AllByRecursion (λ l. Bounded w k l.arrival) ls

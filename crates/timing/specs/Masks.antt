@@ -1,5 +1,5 @@
 -- The sets of the arcs at each node.
-use Rattle.std.specs.Prelude.{◌≡◌, ℕ, ◌<◌, Bool, false, ◌&&◌, List, set, Some, None, Option, ◌==◌, bit_or, slice_index, slice_set}
+use Rattle.std.specs.Prelude.{◌≡◌, ℕ, ◌<◌, Bool, false, ◌&&◌, List, Some, None, Option, ◌==◌, bit_or, slice_index, slice_set}
 use Rattle.graph.specs.declared.parts.LiveArc.{LiveArc}
 use Rattle.graph.specs.declared.parts.ArcEnd.{ArcEnd}
 use Rattle.graph.specs.Index.{node_at}
