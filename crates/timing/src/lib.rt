@@ -22,4 +22,5 @@ mod timer;
 mod told;
 
 pub use refusals::TimeRefusal;
+pub use sheet::{Line, NodeEntry};
 pub use timer::time;
