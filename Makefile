@@ -1,4 +1,4 @@
-# make demo   prove and build the program, then run its demonstration
+# make demo   prove and build the program, run its demonstrations, and hold the block's to docs/demo-block.txt
 # make test   the whole gate: every proof from nothing, every must-fail edit, every test
 # make bench  the benchmarks, each beside a plain C version in the same run
 
@@ -11,7 +11,9 @@ demo:
 	cd crates/ripotyngue && rt run -- demo
 	mkdir -p target/bin
 	cp crates/ripotyngue/out/ripotyngue target/bin/
-	target/bin/ripotyngue demo-block
+	target/bin/ripotyngue demo-block > target/demo-block.txt
+	cat target/demo-block.txt
+	diff docs/demo-block.txt target/demo-block.txt
 
 test:
 	.ci/run

@@ -32,11 +32,6 @@ CHOSEN = {
     "number-of": "refusal_number",
     "record-from": "record_from_lem",
     "same_length": "same_length_lem",
-    "same-length": "same_length_lem",
-    "all_getD": "all_get_or",
-    "all-getD": "all_get_or",
-    "getD_map": "get_or_map",
-    "getD-map": "get_or_map",
     "get_or-map": "get_or_map",
     "re-set": "set_again",
 }
