@@ -69,10 +69,7 @@ fn add_sets(graph: &mut TimingGraph, dice: &mut Dice) {
 
 pub fn add_delays(rows: &mut [AnnotatedRow; 1024], dice: &mut Dice) {
     for row in rows.iter_mut() {
-        *row = AnnotatedRow {
-            marked: true,
-            ticks: i32::from(dice.roll(900)) + 100,
-        };
+        *row = AnnotatedRow::new(i32::from(dice.roll(900)) + 100);
     }
 }
 

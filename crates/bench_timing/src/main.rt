@@ -4,93 +4,32 @@
 
 mod block;
 
-use anyhow::anyhow;
+use anyhow::ensure;
 use block::{Dice, add_delays, layered};
 use delay::{AnnotatedRow, Table};
 use graph::TimingGraph;
 use measure::{Measure, Ticks};
-use sheet::{Line, NodeEntry};
-use std::alloc::{AllocError, Global};
 use std::env;
 use std::time::Instant;
-use timing::time;
+use tables::Tables;
 
-const NO_LINE: Line = Line {
-    node: 256,
-    tag: 0,
-    back_arc: 1024,
-    back_line: 4096,
-    fore_arc: 1024,
-    fore_line: 4096,
-    required: false,
-};
-
-#[derive(Drop)]
-struct Tables {
-    lines: Vec<Line>,
-    arrivals: Vec<Ticks>,
-    required: Vec<Ticks>,
-    nodes: Vec<NodeEntry>,
-    slacks: Vec<Ticks>,
-}
-
-fn zero_rows(heap: Global, count: usize) -> Result<Vec<Ticks>, AllocError> {
-    let mut rows = Vec::with_capacity(heap, count)?;
-    for _ in 0..count {
-        rows.push(<Ticks as Measure>::zero())?;
-    }
-    Ok(rows)
-}
-
-fn new_tables(heap: Global) -> Result<Tables, AllocError> {
-    let entry = NodeEntry {
-        timed: false,
-        line: 4096,
-    };
-    Ok(Tables {
-        lines: vec![in heap; NO_LINE; 4096]?,
-        arrivals: zero_rows(heap, 4096)?,
-        required: zero_rows(heap, 4096)?,
-        nodes: vec![in heap; entry; 256]?,
-        slacks: zero_rows(heap, 256)?,
-    })
-}
-
-fn time_once(graph: &TimingGraph, rows: &[AnnotatedRow], tables: &mut Tables) -> Option<usize> {
-    time(
-        graph,
-        &mut Table { rows },
-        tables.lines.as_mut_slice(),
-        tables.arrivals.as_mut_slice(),
-        tables.required.as_mut_slice(),
-        tables.nodes.as_mut_slice(),
-        tables.slacks.as_mut_slice(),
-    )
-    .ok()
-}
-
-fn sum_of_slacks(tables: &Tables) -> i64 {
-    let mut sum = 0i64;
-    for slack in tables.slacks.iter() {
-        sum = sum.wrapping_add(i64::from(slack.place(0).unwrap_or(0)));
-    }
-    sum
+fn sum_of_slacks(tables: &Tables<Ticks>) -> i64 {
+    let slacks = tables.slacks.iter().filter_map(|slack| slack.place(0));
+    slacks.fold(0i64, |sum, ticks| sum.wrapping_add(i64::from(ticks)))
 }
 
 fn fastest(
     rt: &HostRuntime,
     graph: &TimingGraph,
     rows: &[AnnotatedRow],
-    tables: &mut Tables,
+    tables: &mut Tables<Ticks>,
 ) -> anyhow::Result<u128> {
     let mut best = u128::MAX;
     for _ in 0..2000 {
         let start = Instant::now(rt)?;
-        let done = time_once(graph, rows, tables);
+        let done = tables.time(graph, &mut Table { rows });
         let taken = start.elapsed(rt)?.as_nanos();
-        if done.is_none() {
-            return Err(anyhow!("the timing was refused"));
-        }
+        ensure!(done.is_ok(), "the timing was refused");
         best = best.min(taken);
     }
     Ok(best)
@@ -99,17 +38,14 @@ fn fastest(
 fn main(rt: HostRuntime) -> anyhow::Result<()> {
     let mut dice = Dice::new();
     let graph = layered(&mut dice);
-    let mut rows = [AnnotatedRow {
-        marked: false,
-        ticks: 0,
-    }; 1024];
+    let mut rows = [AnnotatedRow::BLANK; 1024];
     add_delays(&mut rows, &mut dice);
-    let mut tables = new_tables(rt.alloc())?;
+    let mut tables = Tables::<Ticks>::blank(rt.alloc(), 4096)?;
     if env::args(&rt)?.count() > 1 {
         let best = fastest(&rt, &graph, &rows, &mut tables)?;
         print!(rt; "{best} ns, ")?;
     }
-    let lines = time_once(&graph, &rows, &mut tables).unwrap_or(0);
+    let lines = tables.time(&graph, &mut Table { rows: &rows }).unwrap_or(0);
     let sum = sum_of_slacks(&tables);
     println!(rt; "{lines} lines, sum of slacks {sum}")?;
     Ok(())

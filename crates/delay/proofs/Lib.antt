@@ -1,4 +1,3 @@
 pub mod Products
-pub mod Shown
 pub mod Memos
 pub mod Standing

@@ -24,8 +24,5 @@ module _ (a : ℤ) (b : ℕ) (x y : ℤ) (f : SFits w32 a) (h : b < 2 ^ 16) (x-i
       let q : to_z w64 (of_z w64 y) ≡ pos b = omega (arith, ints) in
       rw (p, q)
 
-  pub product_fits : SFits w64 (to_z w64 (of_z w64 x) *ℤ to_z w64 (of_z w64 y))
-  product_fits = let w = product_within in rw operands (omega (arith, ints))
-
   pub product_is : to_z w64 (of_z w64 (to_z w64 (of_z w64 x) *ℤ to_z w64 (of_z w64 y))) ≡ a *ℤ pos b
   product_is = let w = product_within in rw operands (to_z-of_z w64 _ (omega (arith, ints)))

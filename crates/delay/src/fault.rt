@@ -2,6 +2,8 @@
 ghost use Rattle.std.specs.Prelude.{◌≡◌};
 ghost use Rattle.delay.specs.Causes.{cause_number};
 
+use std::fmt;
+
 #[derive(Clone, Copy, PartialEq, Eq, Debug)]
 pub enum Cause {
     // No row, or a row with no mark.
@@ -24,10 +26,30 @@ impl Cause {
     }
 }
 
+impl fmt::Display for Cause {
+    fn fmt<W: fmt::Write>(&self, f: &mut fmt::Formatter<W>) -> fmt::Result {
+        let words = match *self {
+            Cause::Missing => "no row or no mark",
+            Cause::OutOfRange => "a row's ticks out of range",
+            Cause::MarginOutOfRange => "ticks out of range after a margin",
+        };
+        f.write_str(words)
+    }
+}
+
 // The level is that of the source or layer that found the fault.
 #[derive(Clone, Copy, PartialEq, Eq, Debug)]
 pub struct Fault {
     pub cause: Cause,
     pub arc: u16,
     pub level: u8,
+}
+
+impl fmt::Display for Fault {
+    fn fmt<W: fmt::Write>(&self, f: &mut fmt::Formatter<W>) -> fmt::Result {
+        let cause = self.cause.number();
+        let arc = self.arc;
+        let level = self.level;
+        write!(f, "no delay for arc {arc} (cause {cause}, level {level})")
+    }
 }

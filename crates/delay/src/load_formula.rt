@@ -5,6 +5,7 @@ ghost use Rattle.delay.specs.LoadFormula.{load_ticks};
 use crate::product::product;
 use crate::table::{Table, TableRow};
 
+// C shares the row, so it has a mark in place of an `Option`.
 #[repr(C)]
 #[derive(Clone, Copy, PartialEq, Eq, Debug)]
 pub struct LoadRow {
@@ -25,11 +26,8 @@ impl TableRow for LoadRow {
     ghost shows = { load_ticks };
 
     fn ticks_shown(self) -> Option<i64> {
-        if self.marked {
-            Some(under_load(self.intrinsic, self.slope, self.load))
-        } else {
-            None
-        }
+        let ticks = under_load(self.intrinsic, self.slope, self.load);
+        self.marked.then_some(ticks)
     }
 }
 

@@ -6,7 +6,7 @@ use crate::fault::{Cause, Fault};
 
 pub const LAST_ARC: u16 = 1023;
 
-const TICK_LIMIT: i64 = 1_000_000;
+const TICK_LIMIT: i32 = 1_000_000;
 
 pub trait Source {
     // The tick count or the fault of each arc number.
@@ -34,20 +34,19 @@ pub(crate) fn is_arc(arc: u16) -> bool
     arc <= LAST_ARC
 }
 
-pub(crate) fn is_tick_count(z: i64) -> bool
+pub(crate) fn is_tick_count(z: i32) -> bool
     ensures { result ≡ is_tick_count z }
 {
-    -TICK_LIMIT <= z && z <= TICK_LIMIT
+    (-TICK_LIMIT..=TICK_LIMIT).contains(&z)
 }
 
 // `ticks` where it is a tick count, else a fault.
 pub(crate) fn ranged_ticks(ticks: i64, cause: Cause, arc: u16, level: u8) -> Result<i32, Fault>
     ensures { result ≡ ranged cause arc level ticks }
 {
-    if is_tick_count(ticks) {
-        Ok(ticks as i32)
-    } else {
-        Err(Fault { cause, arc, level })
+    match i32::try_from(ticks) {
+        Ok(ticks) if is_tick_count(ticks) => Ok(ticks),
+        _ => Err(Fault { cause, arc, level }),
     }
 }
 

@@ -29,14 +29,12 @@ fn look_up<R: TableRow>(rows: &[R], arc: u16) -> Option<i64>
 fn row_entry(arc: u16, shown: Option<i64>) -> Result<i32, Fault>
     ensures { result ≡ row_entry arc shown }
 {
-    match shown {
-        Some(ticks) => ranged_ticks(ticks, Cause::OutOfRange, arc, 0),
-        None => Err(Fault {
-            cause: Cause::Missing,
-            arc,
-            level: 0,
-        }),
-    }
+    let ticks = shown.ok_or(Fault {
+        cause: Cause::Missing,
+        arc,
+        level: 0,
+    })?;
+    ranged_ticks(ticks, Cause::OutOfRange, arc, 0)
 }
 
 #[derive(Drop)]

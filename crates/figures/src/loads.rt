@@ -4,12 +4,9 @@ use delay::{AnnotatedRow, load_delays};
 use reader::FileRefusal;
 use std::process::Abort;
 
-// The number and line of a refusal, or 0 and 0.
-fn answer(done: Result<(), FileRefusal>) -> (u8, usize) {
-    match done {
-        Ok(()) => (0, 0),
-        Err(refusal) => (refusal.fault.number(), refusal.line),
-    }
+// A refusal by its number and line.
+fn answer(done: Result<(), FileRefusal>) -> Result<(), (u8, usize)> {
+    done.map_err(|refusal| (refusal.fault.number(), refusal.line))
 }
 
 // The later line for arc 5 stands, and rows that no line names keep mark and ticks.
@@ -18,14 +15,14 @@ fn lines_stand(rt: HostRuntime) {
     let mut table = [unmarked(3); 1024];
     table[6] = marked(66);
     let file = b"arc,ticks\n5,10\n0,-1000000\n5,20\n1023,1000000\nend,4\n";
-    assert_eq!(rt; answer(load_delays(file, &mut table)), (0, 0));
+    assert_eq!(rt; answer(load_delays(file, &mut table)), Ok(()));
     assert_eq!(rt; table[0], marked(-1_000_000));
     assert_eq!(rt; table[5], marked(20));
     assert_eq!(rt; table[6], marked(66));
     assert_eq!(rt; table[7], unmarked(3));
     assert_eq!(rt; table[1023], marked(1_000_000));
     let columns = b"ticks,arc\n10,6\nend,1\n";
-    assert_eq!(rt; answer(load_delays(columns, &mut table)), (0, 0));
+    assert_eq!(rt; answer(load_delays(columns, &mut table)), Ok(()));
     assert_eq!(rt; table[6], marked(10));
     assert_eq!(rt; table[10], unmarked(3));
 }
@@ -33,7 +30,7 @@ fn lines_stand(rt: HostRuntime) {
 // A refused file sets no row, not even that of its first, good line.
 fn refuses(rt: &impl Abort, file: &[u8], number: u8, line: usize) {
     let mut table = [unmarked(3); 1024];
-    assert_eq!(rt; answer(load_delays(file, &mut table)), (number, line));
+    assert_eq!(rt; answer(load_delays(file, &mut table)), Err((number, line)));
     assert_eq!(rt; table[5], unmarked(3));
 }
 
@@ -56,9 +53,9 @@ fn lengths(rt: HostRuntime) {
     let mut short = [unmarked(3); 1023];
     let mut long = [unmarked(3); 1025];
     let mut none: [AnnotatedRow; 0] = [];
-    assert_eq!(rt; answer(load_delays(file, &mut short)), (14, 0));
-    assert_eq!(rt; answer(load_delays(file, &mut long)), (14, 0));
-    assert_eq!(rt; answer(load_delays(b"", &mut none)), (14, 0));
+    assert_eq!(rt; answer(load_delays(file, &mut short)), Err((14, 0)));
+    assert_eq!(rt; answer(load_delays(file, &mut long)), Err((14, 0)));
+    assert_eq!(rt; answer(load_delays(b"", &mut none)), Err((14, 0)));
     assert_eq!(rt; short[5], unmarked(3));
     assert_eq!(rt; long[5], unmarked(3));
 }

@@ -138,7 +138,7 @@ kept_marked b s u v b' k m = record {
         → ((e : LiveArc) → arc_at b n ≡ Some e → P e) → (e : LiveArc) → arc_at b' n ≡ Some e → P e
     was n P keep old e h = let x = m.arcs n in joined_was s x.0 (arc_at b n) P keep old e (sym x.2 ∙ h)
 
-kept_paired_in : (b : Block) (s u v : ℕ) (r : Result Unit ℕ) (b' : Block) → Kept b → PairedIn b s u v r b' → Kept b'
+pub kept_paired_in : (b : Block) (s u v : ℕ) (r : Result Unit ℕ) (b' : Block) → Kept b → PairedIn b s u v r b' → Kept b'
 kept_paired_in b s u v (Ok _) b' k p = kept_marked b s u v b' k p.1
 kept_paired_in b s u v (Err e) b' k p = subst Kept (sym p.2) k
 

@@ -1,11 +1,10 @@
 -- The arcs that lie between two swept sides are those on the paths.
-use Rattle.std.proofs.Common.{◌≡◌, ℕ, ◌<◌, ◌≤◌, Bool, true, false, cond, not, ◌&&◌, ◌||◌, ◌⊎◌, List, [], ◌∷◌, ◌++◌, map, length, get_or, ℤ, pos, negsuc, nat_abs, Some, None, Ok, Err, Decides, MatchBool, Option, Result, sym, refl, ap, ◌∙◌, subst, inl, inr, arith}
+use Rattle.std.proofs.Common.{◌≡◌, ℕ, ◌<◌, ◌≤◌, Bool, true, false, cond, not, ◌&&◌, ◌||◌, ◌⊎◌, List, [], ◌∷◌, ◌++◌, map, length, get_or, ℤ, pos, negsuc, nat_abs, Some, None, Ok, Err, Decides, Option, Result, sym, refl, ap, ◌∙◌, subst, inl, inr, arith}
 use lib.Signed.{le_z}
 use Rattle.std.proofs.lemmas.List.{length-map}
 use Rattle.std.proofs.lemmas.Bool.{and_parts, and_from, both_ways, leb-true, not-false}
 use Rattle.graph.specs.declared.parts.LiveArc.{LiveArc}
 use Rattle.graph.specs.Kept.{Rising}
-use Rattle.graph.specs.Ranges.{is_node, is_set}
 use Rattle.graph.specs.Block.{Block}
 use Rattle.graph.specs.Paths.{Walks, Reach, Between}
 use Rattle.graph.specs.Sets.{in_set}
@@ -93,18 +92,5 @@ pub in_bounds : (z : ℤ) (top : ℕ) → (le_z (pos 0) z && le_z z (pos top)) �
 in_bounds (pos n) top h = (leb-true n top (and_parts (le_z (pos 0) (pos n)) (le_z (pos n) (pos top)) h).1, refl)
 in_bounds (negsuc n) top h = absurd (both_ways false refl (and_parts (le_z (pos 0) (negsuc n)) (le_z (negsuc n) (pos top)) h).0)
 
-in_range : (p q r : Bool) → p ≡ true → q ≡ true → r ≡ true → (not p || not q || not r) ≡ false
-in_range true true true hp hq hr = refl
-in_range true true false hp hq hr = absurd (both_ways false refl hr)
-in_range true false r hp hq hr = absurd (both_ways false refl hq)
-in_range false q r hp hq hr = absurd (both_ways false refl hp)
-
 pub moved_pair : (b : Block) (s s' u u' v v' : ℤ) (r : Result Unit ℕ) (b' : Block) → s' ≡ s → u' ≡ u → v' ≡ v → Paired b s' u' v' r b' → Paired b s u v r b'
 moved_pair b s s' u u' v v' r b' p q t h = subst (λ x. Paired b x u v r b') p (subst (λ x. Paired b s' x v r b') q (subst (λ x. Paired b s' u' x r b') t h))
-
--- a primed number is the one that the code passes on
-pub paired_in : (b : Block) (s s' u u' v v' : ℤ) (r : Result Unit ℕ) (b' : Block) → s' ≡ s → u' ≡ u → v' ≡ v
-    → is_set s' ≡ true → is_node u' ≡ true → is_node v' ≡ true → PairedIn b (nat_abs s') (nat_abs u') (nat_abs v') r b' → Paired b s u v r b'
-paired_in b s s' u u' v v' r b' p q t hs hu hv h =
-    moved_pair b s s' u u' v v' r b' p q t
-    (subst (λ x. MatchBool x ((r ≡ Err 6) × (b' ≡ b)) (PairedIn b (nat_abs s') (nat_abs u') (nat_abs v') r b')) (sym (in_range (is_set s') (is_node u') (is_node v') hs hu hv)) h)

@@ -10,8 +10,7 @@ use Rattle.graph.specs.Order.{Precedes}
 use Rattle.graph.specs.Ranges.{is_ticks}
 use Rattle.graph.specs.Slots.{slot_arc, arcs_of}
 use Rattle.graph.specs.Kept.{Numbered, Rising, NodesInRange, TrimsInRange}
-use Rattle.graph.specs.Sets.{set_again, with_set, without_set, cleared}
-use Rattle.graph.specs.Sweeps.{lies_on, marked}
+use Rattle.graph.specs.Sets.{set_again, without_set, cleared}
 
 -- the places of a new graph
 abbrev pub no_arc : ArcSlot
@@ -34,10 +33,6 @@ module _ {X : Type 0} where
 
   pub none_live : (n k : ℕ) (e : X) → get_or (replicate n None) k None ≡ Some e → ⊥
   none_live n k e h = none_some e (sym (replicate_at None n k) ∙ h)
-
-  pub dead : (o : Option X) → ((e : X) → o ≡ Some e → ⊥) → None ≡ o
-  dead None h = refl
-  dead (Some e) h = absurd (h e refl)
 
   -- a number that has something lies within the list
   pub live_within : (xs : List (Option X)) (n : ℕ) (e : X) → get_or xs n None ≡ Some e → n < length xs
@@ -67,16 +62,6 @@ module _ {S X : Type 0} (f : S → Option X) where
   slot_at d h (x ∷ xs) zero = refl
   slot_at d h (x ∷ xs) (suc n) = slot_at d h xs n
 
-  pub put_slot : (xs : List S) (i : ℕ) (v : S) (P : ℕ → X → Type 0)
-      → ((k : ℕ) (e : X) → get_or (map f xs) k None ≡ Some e → P k e)
-      → ((e : X) → f v ≡ Some e → P i e)
-      → (k : ℕ) (e : X) → get_or (map f (set xs i v)) k None ≡ Some e → P k e
-  put_slot [] i v P old new k e q = old k e q
-  put_slot (x ∷ xs) zero v P old new zero e q = new e q
-  put_slot (x ∷ xs) zero v P old new (suc k) e q = old (suc k) e q
-  put_slot (x ∷ xs) (suc i) v P old new zero e q = old zero e q
-  put_slot (x ∷ xs) (suc i) v P old new (suc k) e q = put_slot xs i v (λ m. P (suc m)) (λ m. old (suc m)) new k e q
-
   pub blank_slots : (d : S) → f d ≡ None → (n : ℕ) → map f (replicate n d) ≡ replicate n None
   blank_slots d h zero = refl
   blank_slots d h (suc n) = ap (λ o. o ∷ map f (replicate n d)) h ∙ ap (λ os. None ∷ os) (blank_slots d h n)
@@ -103,13 +88,6 @@ Keeps f = (f None ≡ None) × ((e : LiveArc) → (m : ℕ) × (f (Some e) ≡ S
 
 pub cleared_keeps : (s : ℕ) → Keeps (cleared s)
 cleared_keeps s = (refl, λ e. (without_set e.sets s, refl))
-
-by_cond : (b : Bool) (s : ℕ) (e : LiveArc) → (m : ℕ) × (cond b (Some (set_again e (with_set e.sets s))) (Some e) ≡ Some (set_again e m))
-by_cond true s e = (with_set e.sets s, refl)
-by_cond false s e = (e.sets, refl)
-
-pub marked_keeps : (s : ℕ) (A B : List Bool) → Keeps (marked s A B)
-marked_keeps s A B = (refl, λ e. by_cond (lies_on A B (Some e)) s e)
 
 pub map_live : (f : Option LiveArc → Option LiveArc) → Keeps f → (P : ℕ → LiveArc → Type 0) → ((k : ℕ) (e : LiveArc) (m : ℕ) → P k e → P k (set_again e m))
     → (arcs : List (Option LiveArc)) → ((k : ℕ) (e : LiveArc) → get_or arcs k None ≡ Some e → P k e)

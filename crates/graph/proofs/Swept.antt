@@ -1,5 +1,5 @@
 -- Sweeps over the nodes, and the paths that they follow.
-use Rattle.std.proofs.Common.{◌≡◌, ℕ, zero, suc, ◌+◌, ◌<◌, ◌≤◌, Bool, true, false, ◌⊎◌, List, [], ◌∷◌, ◌++◌, length, get_or, set, replicate, Option, sym, refl, ap, ◌∙◌, subst, inl, inr, ⊎_elim, arith}
+use Rattle.std.proofs.Common.{◌≡◌, ℕ, zero, suc, ◌+◌, ◌-◌, ◌<◌, ◌≤◌, Bool, true, false, ◌⊎◌, List, [], ◌∷◌, ◌++◌, length, get_or, set, replicate, Option, sym, refl, ap, ◌∙◌, subst, inl, inr, ⊎_elim, arith}
 use Rattle.std.proofs.lemmas.List.{get_or-set_same, get_or-set_other, get_or_past, length-set, length-replicate, length-map}
 use Rattle.std.proofs.lemmas.Bool.{cases_eq, both_ways, cases_lt}
 use Rattle.graph.specs.declared.parts.LiveArc.{LiveArc}
@@ -8,7 +8,7 @@ use Rattle.graph.specs.declared.parts.ArcEnd.TheVariants.{Tail, Head}
 use Rattle.graph.specs.Kept.{Live, Rising}
 use Rattle.graph.specs.Index.{node_at, numbers_at}
 use Rattle.graph.specs.Paths.{Walks, Reach}
-use Rattle.graph.specs.Sweeps.{far_at, Visited}
+use Rattle.graph.specs.Sweeps.{far_at, nth_from, Reaches, Visited}
 use Rattle.graph.specs.declared.parts.ArcSlot.{ArcSlot}
 use Rattle.graph.specs.Slots.{slot_arc, arcs_of}
 use Rattle.graph.proofs.Slots.{replicate_at, slot_at, slot_live, live_within, no_arc}
@@ -87,88 +87,73 @@ module _ (end : ArcEnd) (slots : List ArcSlot) (node : ℕ) (ns : List ℕ) (q :
       let live' : Live (arcs_of slots) (get_or ns i 0) e = subst (λ ms. Live (arcs_of slots) (get_or ms i 0) e) (sym q) live in
       h ∙ ap (far_at end) (slot_live _ e (sym (slot_at slot_arc no_arc refl slots (get_or ns i 0)) ∙ live'))
 
--- a sweep from `from` upward, before node i
-pub record SweptOn (arcs : List (Option LiveArc)) (from i : ℕ) (s : List Bool) : Type 0 where
-  pub size : length s ≡ 256
-  pub sound : (v : ℕ) → get_or s v false ≡ true → Reach arcs from v
-  pub seed : get_or s from false ≡ true
-  pub closed : (n : ℕ) (e : LiveArc) → Live arcs n e → e.from < i → get_or s e.from false ≡ true → get_or s e.to false ≡ true
-
-pub on_start : (arcs : List (Option LiveArc)) (from : ℕ) → from < 256 → SweptOn arcs from 0 (set (replicate 256 false) from true)
-on_start arcs from h = record {
-  size = length-set (replicate 256 false) from true ∙ length-replicate 256 false;
-  sound = λ v m. ⊎_elim (λ (q : v ≡ from). ([], sym q)) (λ k. absurd (both_ways _ (replicate_at false 256 v) k)) (set_true_only (replicate 256 false) from v m);
-  seed = get_or-set_same (replicate 256 false) from true false (subst (λ n. from < n) (sym (length-replicate 256 false)) h);
-  closed = λ n e live l. let z : ⊥ = omega arith in absurd z;
-}
-
-pub on_more : (arcs : List (Option LiveArc)) → Rising arcs → (from i : ℕ) (s s' : List Bool) → SweptOn arcs from i s → length s' ≡ length s
-    → Visited Tail arcs i s s' → SweptOn arcs from (i + 1) s'
-on_more arcs up from i s s' p n v = record {
-  size = n ∙ p.size;
-  sound = λ w m. ⊎_elim (p.sound w)
-      (λ x. subst (Reach arcs from) x.1.4 (reach_push arcs from x.1.0 x.1.1 x.1.2 (subst (Reach arcs from) (sym x.1.3) (p.sound i x.0))))
-      (v.sound w m);
-  seed = v.kept from p.seed;
-  closed = λ n e live l m. ⊎_elim
-      (λ (k : get_or s e.from false ≡ true). ⊎_elim
-      (λ (q : e.from ≡ i). v.reached n e live q (subst (λ w. get_or s w false ≡ true) q k))
-      (λ (q : e.from ≡ i → ⊥). v.kept e.to (p.closed n e live (omega arith) k))
-      (cases_eq e.from i))
-      (λ x. let r = up x.1.0 x.1.1 x.1.2 in let a = x.1.3 in let b = x.1.4 in let z : ⊥ = omega arith in absurd z)
-      (v.sound e.from m);
-}
-
 pub marked_within : (s : List Bool) (v n : ℕ) → length s ≡ n → get_or s v false ≡ true → v < n
 marked_within s v n h m =
     ⊎_elim (λ l. l) (λ (g : n ≤ v). absurd (both_ways (get_or s v false) (get_or_past s v false (subst (λ k. k ≤ v) (sym h) g)) m)) (cases_lt v n)
 
-pub on_all : (arcs : List (Option LiveArc)) (from i : ℕ) (s : List Bool) → SweptOn arcs from i s → 256 ≤ i → (v : ℕ) → Reach arcs from v → get_or s v false ≡ true
-on_all arcs from i s p far v r =
-    along arcs (λ w. get_or s w false ≡ true)
-    (λ n e live m. let b = marked_within s e.from 256 p.size m in p.closed n e live (omega arith) m)
-    from r.0 v r.1 p.seed
-
--- a sweep from `to` downward, after node i
-pub record SweptBack (arcs : List (Option LiveArc)) (to i : ℕ) (s : List Bool) : Type 0 where
-  pub size : length s ≡ 256
-  pub sound : (v : ℕ) → get_or s v false ≡ true → Reach arcs v to
-  pub seed : get_or s to false ≡ true
-  pub closed : (n : ℕ) (e : LiveArc) → Live arcs n e → i ≤ e.to → get_or s e.to false ≡ true → get_or s e.from false ≡ true
-
-pub back_start : (arcs : List (Option LiveArc)) (to : ℕ) → to < 256 → SweptBack arcs to 256 (set (replicate 256 false) to true)
-back_start arcs to h = record {
-  size = length-set (replicate 256 false) to true ∙ length-replicate 256 false;
-  sound = λ v m. ⊎_elim (λ (q : v ≡ to). ([], q)) (λ k. absurd (both_ways _ (replicate_at false 256 v) k)) (set_true_only (replicate 256 false) to v m);
-  seed = get_or-set_same (replicate 256 false) to true false (subst (λ n. to < n) (sym (length-replicate 256 false)) h);
-  closed = λ n e live l m. ⊎_elim
-      (λ (q : e.to ≡ to). let z : ⊥ = omega arith in absurd z)
-      (λ k. absurd (both_ways _ (replicate_at false 256 e.to) k))
-      (set_true_only (replicate 256 false) to e.to m);
-}
-
-pub back_more : (arcs : List (Option LiveArc)) → Rising arcs → (to i j : ℕ) (s s' : List Bool) → j ≤ i + 1 → SweptBack arcs to j s → length s' ≡ length s
-    → Visited Head arcs i s s' → SweptBack arcs to i s'
-back_more arcs up to i j s s' ij p n v = record {
-  size = n ∙ p.size;
-  sound = λ w m. ⊎_elim (p.sound w)
-      (λ x. let r = subst (λ k. Reach arcs k to) (sym x.1.3) (p.sound i x.0) in (x.1.0 ∷ r.0, (x.1.1, x.1.2, x.1.4, r.1)))
-      (v.sound w m);
-  seed = v.kept to p.seed;
-  closed = λ n e live l m. ⊎_elim
-      (λ (k : get_or s e.to false ≡ true). ⊎_elim
-      (λ (q : e.to ≡ i). v.reached n e live q (subst (λ w. get_or s w false ≡ true) q k))
-      (λ (q : e.to ≡ i → ⊥). v.kept e.from (p.closed n e live (omega arith) k))
-      (cases_eq e.to i))
-      (λ x. let r = up x.1.0 x.1.1 x.1.2 in let a = x.1.3 in let b = x.1.4 in let z : ⊥ = omega arith in absurd z)
-      (v.sound e.to m);
-}
-
-pub back_along : (arcs : List (Option LiveArc)) (P : ℕ → Type 0) → ((n : ℕ) (e : LiveArc) → Live arcs n e → P e.to → P e.from)
+back_along : (arcs : List (Option LiveArc)) (P : ℕ → Type 0) → ((n : ℕ) (e : LiveArc) → Live arcs n e → P e.to → P e.from)
     → (u : ℕ) (ns : List ℕ) (v : ℕ) → Walks arcs u ns v → P v → P u
 back_along arcs P closed u [] v w p = subst P (sym w) p
 back_along arcs P closed u (n ∷ ns) v w p = subst P w.2 (closed n w.0 w.1 (back_along arcs P closed w.0.to ns v w.3 p))
 
-pub back_all : (arcs : List (Option LiveArc)) (to i : ℕ) (s : List Bool) → SweptBack arcs to i s → i ≤ 0 → (v : ℕ) → Reach arcs v to → get_or s v false ≡ true
-back_all arcs to i s p low v r =
-    back_along arcs (λ w. get_or s w false ≡ true) (λ n e live m. p.closed n e live (omega arith) m) v r.0 to r.1 p.seed
+-- ---- what a sweep does alike at either end
+reaches_self : (end : ArcEnd) (arcs : List (Option LiveArc)) (u v : ℕ) → v ≡ u → Reaches end arcs u v
+reaches_self Tail arcs u v q = ([], sym q)
+reaches_self Head arcs u v q = ([], q)
+
+reaches_on : (end : ArcEnd) (arcs : List (Option LiveArc)) (u n : ℕ) (e : LiveArc) → Live arcs n e → Reaches end arcs u (node_at end e) → Reaches end arcs u (far_at end e)
+reaches_on Tail arcs u n e l r = reach_push arcs u n e l r
+reaches_on Head arcs u n e l r = (n ∷ r.0, (e, l, refl, r.1))
+
+followed : (end : ArcEnd) (arcs : List (Option LiveArc)) (P : ℕ → Type 0) → ((n : ℕ) (e : LiveArc) → Live arcs n e → P (node_at end e) → P (far_at end e))
+    → (u v : ℕ) → Reaches end arcs u v → P u → P v
+followed Tail arcs P closed u v r p = along arcs P closed u r.0 v r.1 p
+followed Head arcs P closed u v r p = back_along arcs P closed v r.0 u r.1 p
+
+place_of : (end : ArcEnd) (v : ℕ) → v < 256 → (j : ℕ) × (j < 256) × (v ≡ nth_from end j)
+place_of Tail v h = (v, h, refl)
+place_of Head v h = (255 - v, omega arith, omega arith)
+
+-- the far node of an arc is swept after the node at the end
+later : (end : ArcEnd) (arcs : List (Option LiveArc)) → Rising arcs → (n : ℕ) (e : LiveArc) → Live arcs n e → (i j : ℕ) → i < 256
+    → node_at end e ≡ nth_from end i → far_at end e ≡ nth_from end j → i < j
+later Tail arcs up n e l i j h p q = let r = up n e l in omega arith
+later Head arcs up n e l i j h p q = let r = up n e l in omega arith
+
+-- a sweep from a node, before place i
+pub record Swept (end : ArcEnd) (arcs : List (Option LiveArc)) (node i : ℕ) (s : List Bool) : Type 0 where
+  pub size : length s ≡ 256
+  pub sound : (v : ℕ) → get_or s v false ≡ true → Reaches end arcs node v
+  pub seed : get_or s node false ≡ true
+  pub closed : (n : ℕ) (e : LiveArc) (j : ℕ) → Live arcs n e → node_at end e ≡ nth_from end j → j < i → get_or s (node_at end e) false ≡ true → get_or s (far_at end e) false ≡ true
+
+pub swept_start : (end : ArcEnd) (arcs : List (Option LiveArc)) (node : ℕ) → node < 256 → Swept end arcs node 0 (set (replicate 256 false) node true)
+swept_start end arcs node h = record {
+  size = length-set (replicate 256 false) node true ∙ length-replicate 256 false;
+  sound = λ v m. ⊎_elim (reaches_self end arcs node v) (λ k. absurd (both_ways _ (replicate_at false 256 v) k)) (set_true_only (replicate 256 false) node v m);
+  seed = get_or-set_same (replicate 256 false) node true false (subst (λ n. node < n) (sym (length-replicate 256 false)) h);
+  closed = λ n e j live at l. let z : ⊥ = omega arith in absurd z;
+}
+
+pub swept_more : (end : ArcEnd) (arcs : List (Option LiveArc)) → Rising arcs → (node i : ℕ) (s s' : List Bool) → i < 256 → Swept end arcs node i s → length s' ≡ length s
+    → Visited end arcs (nth_from end i) s s' → Swept end arcs node (i + 1) s'
+swept_more end arcs up node i s s' h p n v = record {
+  size = n ∙ p.size;
+  sound = λ w m. ⊎_elim (p.sound w)
+      (λ x. subst (Reaches end arcs node) x.1.4 (reaches_on end arcs node x.1.0 x.1.1 x.1.2 (subst (Reaches end arcs node) (sym x.1.3) (p.sound (nth_from end i) x.0))))
+      (v.sound w m);
+  seed = v.kept node p.seed;
+  closed = λ n e j live at l m. ⊎_elim
+      (λ (k : get_or s (node_at end e) false ≡ true). ⊎_elim
+      (λ (q : j ≡ i). let at_i : node_at end e ≡ nth_from end i = at ∙ ap (nth_from end) q in v.reached n e live at_i (subst (λ w. get_or s w false ≡ true) at_i k))
+      (λ (q : j ≡ i → ⊥). v.kept (far_at end e) (p.closed n e j live at (omega (arith, q)) k))
+      (cases_eq j i))
+      (λ x. let z : ⊥ = omega (arith, later end arcs up x.1.0 x.1.1 x.1.2 i j h x.1.3 (x.1.4 ∙ at)) in absurd z)
+      (v.sound (node_at end e) m);
+}
+
+pub swept_all : (end : ArcEnd) (arcs : List (Option LiveArc)) (node i : ℕ) (s : List Bool) → Swept end arcs node i s → 256 ≤ i → (v : ℕ) → Reaches end arcs node v → get_or s v false ≡ true
+swept_all end arcs node i s p h v r =
+    followed end arcs (λ w. get_or s w false ≡ true)
+    (λ n e live m. let x = place_of end (node_at end e) (marked_within s (node_at end e) 256 p.size m) in let l = x.1 in p.closed n e x.0 live x.2 (omega arith) m)
+    node v r p.seed

@@ -1,5 +1,5 @@
 -- The content of a timing graph, and what each call on one arc or one bound does to it.
-use Rattle.std.specs.Prelude.{ℕ, ◌+◌, ◌≤◌, cond, not, ◌||◌, List, replicate, ℤ, pos, Some, None, Ok, Err, Option, Result, ◌==◌, slice_index_or, slice_set, unsigned_abs}
+use Rattle.std.specs.Prelude.{◌≡◌, MatchBool, ℕ, ◌+◌, ◌≤◌, cond, not, ◌||◌, List, replicate, ℤ, pos, Some, None, Ok, Err, Option, Result, ◌==◌, slice_index_or, slice_set, unsigned_abs}
 use Rattle.graph.specs.declared.parts.LiveArc.{LiveArc}
 use Rattle.graph.specs.declared.store.TimingGraph.{TimingGraph}
 use Rattle.graph.specs.Order.{precedes}
@@ -88,6 +88,12 @@ abbrev pub with_end : Block → ℤ → ℤ → Outcome Unit
 with_end b node t =
     cond (not (is_node node) || not (is_ticks t)) (refused b 6)
     (accepted tt (record { taken = b.taken; arcs = b.arcs; starts = b.starts; ends = slice_set b.ends (unsigned_abs node) (Some t) }))
+
+-- what a call that sets a node's ticks answers, and leaves in the table of starts or ends
+abbrev pub SetsTime : List (Option ℤ) → ℤ → ℤ → Result Unit ℕ → List (Option ℤ) → Type 0
+SetsTime times node t r times' =
+    MatchBool (not (is_node node) || not (is_ticks t)) ((r ≡ Err 6) × (times' ≡ times))
+    ((r ≡ Ok tt) × (times' ≡ slice_set times (unsigned_abs node) (Some t)))
 
 abbrev pub re_trimmed : LiveArc → ℤ → LiveArc
 re_trimmed e t = record { from = e.from; to = e.to; trim = t; sets = e.sets }

@@ -1,5 +1,6 @@
 -- The number of each refusal.
-use Rattle.std.specs.Prelude.{ℕ, Ok, Err, Result}
+use Rattle.std.specs.Prelude.{◌≡◌, ℕ, Bool, true, false, MatchResult, Result}
+use Rattle.reader.specs.Loading.{numbered as by_number}
 use Rattle.graph.specs.declared.parts.Refusal.{Refusal}
 use Rattle.graph.specs.declared.parts.Refusal.TheVariants.{OutOfRange, NotRising, Full, NotLive, InSet, NoPath}
 
@@ -15,5 +16,8 @@ refusal_number NoPath = 11
 
 -- an answer with its refusal as a number
 abbrev pub numbered : {A : Type 0} → Result A Refusal → Result A ℕ
-numbered (Ok a) = Ok a
-numbered (Err e) = Err (refusal_number e)
+numbered r = by_number refusal_number r
+
+-- a call's number, read: what P says of it if the number passes its test, and else refusal 6
+abbrev pub Passes : {A : Type 0} → Bool → Result A Refusal → (A → Type 0) → Type 0
+Passes test r P = MatchResult r (λ a. (test ≡ true) × P a) (λ e. (test ≡ false) × (e ≡ OutOfRange))

@@ -1,16 +1,28 @@
 -- How the arcs between two nodes are found: by marks on the nodes.
-use Rattle.std.specs.Prelude.{◌≡◌, ℕ, Bool, true, false, cond, ◌&&◌, ◌⊎◌, List, Some, None, Option, slice_index_or}
+use Rattle.std.specs.Prelude.{◌≡◌, ℕ, ◌-◌, Bool, true, false, cond, ◌&&◌, ◌⊎◌, List, Some, None, Option, slice_index_or}
 use Rattle.graph.specs.declared.parts.LiveArc.{LiveArc}
 use Rattle.graph.specs.declared.parts.ArcEnd.{ArcEnd}
 use Rattle.graph.specs.declared.parts.ArcEnd.TheVariants.{Tail, Head}
 use Rattle.graph.specs.Index.{node_at}
 use Rattle.graph.specs.Kept.{Live}
+use Rattle.graph.specs.Order.{nth_node}
+use Rattle.graph.specs.Paths.{Reach}
 use Rattle.graph.specs.Sets.{in_set}
 
 -- the node at the other end of an arc
 abbrev pub far_at : ArcEnd → LiveArc → ℕ
 far_at Tail e = e.to
 far_at Head e = e.from
+
+-- the node at a place of the order, counted from the first node for tails, from the last for heads
+abbrev pub nth_from : ArcEnd → ℕ → ℕ
+nth_from Tail place = nth_node place
+nth_from Head place = nth_node (255 - place)
+
+-- a path leads from the node to v, or, by the heads, from v to the node
+abbrev pub Reaches : ArcEnd → List (Option LiveArc) → ℕ → ℕ → Type 0
+Reaches Tail arcs node v = Reach arcs node v
+Reaches Head arcs node v = Reach arcs v node
 
 -- s' marks what s marks and, if the node is marked, the far node of each arc that has the node at that end
 pub record Visited (end : ArcEnd) (arcs : List (Option LiveArc)) (node : ℕ) (s s' : List Bool) : Type 0 where

@@ -1,12 +1,12 @@
 // The calls that change one arc or one bound, and what can be asked of a graph.
 ghost use Rattle.std.specs.Prelude.{◌≡◌, None, slice_index_or};
 ghost use Rattle.graph.specs.Refusals.{numbered};
-ghost use Rattle.graph.specs.Slots.{slot_time};
-ghost use Rattle.graph.specs.Block.{block_of, blank, arc_at, with_arc, without_arc, with_start, with_end, with_trim, Kept};
+ghost use Rattle.graph.specs.Slots.{times_of};
+ghost use Rattle.graph.specs.Block.{SetsTime, block_of, blank, arc_at, with_arc, without_arc, with_start, with_end, with_trim, Kept};
 
 use crate::order::precedes;
 use crate::parts::{ArcSlot, LiveArc, Refusal, TimeSlot};
-use crate::ranges::{is_arc, is_node, is_ticks};
+use crate::ranges::{arc_of, node_of, ticks_of};
 use crate::store::TimingGraph;
 
 const NO_ARC: ArcSlot = ArcSlot {
@@ -24,10 +24,22 @@ const NO_TIME: TimeSlot = TimeSlot {
     ticks: 0,
 };
 
-fn time_in(slot: TimeSlot) -> Option<i32>
-    ensures { result ≡ slot_time slot }
+// The ticks of a node in a table of starts or ends, if it has any there.
+fn time_at(times: &[TimeSlot; 256], node: u8) -> Option<i32>
+    ensures { result ≡ slice_index_or (times_of times.now) node None }
 {
-    if slot.set { Some(slot.ticks) } else { None }
+    let slot = times[node as usize];
+    slot.set.then_some(slot.ticks)
+}
+
+// Sets or replaces the ticks of a node in a table of starts or ends.
+fn set_time(times: &mut [TimeSlot; 256], node: i32, ticks: i32) -> Result<(), Refusal>
+    ensures { SetsTime (times_of times.old) node ticks (numbered result) (times_of times.new) }
+{
+    let node = node_of(node)?;
+    let ticks = ticks_of(ticks)?;
+    times[node as usize] = TimeSlot { set: true, ticks };
+    Ok(())
 }
 
 impl TimingGraph {
@@ -58,25 +70,22 @@ impl TimingGraph {
     pub fn arc(&self, number: u16) -> Option<LiveArc>
         ensures { result ≡ arc_at (block_of self.now) number }
     {
-        if number > 1023 {
-            return None;
-        }
-        let slot = self.arcs[number as usize];
-        if slot.live { Some(slot.arc) } else { None }
+        let slot = self.arcs.get(number as usize)?;
+        slot.live.then_some(slot.arc)
     }
 
     // The ticks of a node's start, if it has one.
     pub fn start(&self, node: u8) -> Option<i32>
         ensures { result ≡ slice_index_or (block_of self.now).starts node None }
     {
-        time_in(self.starts[node as usize])
+        time_at(&self.starts, node)
     }
 
     // The ticks of a node's end, if it has one.
     pub fn end(&self, node: u8) -> Option<i32>
         ensures { result ≡ slice_index_or (block_of self.now).ends node None }
     {
-        time_in(self.ends[node as usize])
+        time_at(&self.ends, node)
     }
 
     // A new arc with trim 0, under the next number, which is the answer.
@@ -84,11 +93,8 @@ impl TimingGraph {
         ensures answer { numbered result ≡ (with_arc (block_of self.old) from to).answer }
         ensures after { block_of self.new ≡ (with_arc (block_of self.old) from to).after }
     {
-        if !is_node(from) || !is_node(to) {
-            return Err(Refusal::OutOfRange);
-        }
-        let from = from as u8;
-        let to = to as u8;
+        let from = node_of(from)?;
+        let to = node_of(to)?;
         if !precedes(from, to) {
             return Err(Refusal::NotRising);
         }
@@ -114,16 +120,12 @@ impl TimingGraph {
         ensures answer { numbered result ≡ (without_arc (block_of self.old) arc).answer }
         ensures after { block_of self.new ≡ (without_arc (block_of self.old) arc).after }
     {
-        if !is_arc(arc) {
-            return Err(Refusal::OutOfRange);
-        }
-        let Some(live) = self.arc(arc as u16) else {
-            return Err(Refusal::NotLive);
-        };
+        let number = arc_of(arc)?;
+        let live = self.arc(number).ok_or(Refusal::NotLive)?;
         if live.sets != 0 {
             return Err(Refusal::InSet);
         }
-        self.arcs[arc as usize] = NO_ARC;
+        self.arcs[number as usize] = NO_ARC;
         Ok(())
     }
 
@@ -132,11 +134,7 @@ impl TimingGraph {
         ensures answer { numbered result ≡ (with_start (block_of self.old) node ticks).answer }
         ensures after { block_of self.new ≡ (with_start (block_of self.old) node ticks).after }
     {
-        if !is_node(node) || !is_ticks(ticks) {
-            return Err(Refusal::OutOfRange);
-        }
-        self.starts[node as usize] = TimeSlot { set: true, ticks };
-        Ok(())
+        set_time(&mut self.starts, node, ticks)
     }
 
     // Sets or replaces a node's end.
@@ -144,11 +142,7 @@ impl TimingGraph {
         ensures answer { numbered result ≡ (with_end (block_of self.old) node ticks).answer }
         ensures after { block_of self.new ≡ (with_end (block_of self.old) node ticks).after }
     {
-        if !is_node(node) || !is_ticks(ticks) {
-            return Err(Refusal::OutOfRange);
-        }
-        self.ends[node as usize] = TimeSlot { set: true, ticks };
-        Ok(())
+        set_time(&mut self.ends, node, ticks)
     }
 
     // Sets the ticks that are added to an arc's delay.
@@ -156,13 +150,10 @@ impl TimingGraph {
         ensures answer { numbered result ≡ (with_trim (block_of self.old) arc ticks).answer }
         ensures after { block_of self.new ≡ (with_trim (block_of self.old) arc ticks).after }
     {
-        if !is_arc(arc) || !is_ticks(ticks) {
-            return Err(Refusal::OutOfRange);
-        }
-        let Some(live) = self.arc(arc as u16) else {
-            return Err(Refusal::NotLive);
-        };
-        self.arcs[arc as usize] = ArcSlot {
+        let number = arc_of(arc)?;
+        let ticks = ticks_of(ticks)?;
+        let live = self.arc(number).ok_or(Refusal::NotLive)?;
+        self.arcs[number as usize] = ArcSlot {
             live: true,
             arc: LiveArc {
                 trim: ticks,

@@ -1,27 +1,39 @@
 // Which numbers may be given for a node, an arc, a set and a tick count.
-ghost use Rattle.std.specs.Prelude.{◌≡◌};
+ghost use Rattle.std.specs.Prelude.{◌≡◌, unsigned_abs};
 ghost use Rattle.graph.specs.Ranges.{is_node, is_arc, is_set, is_ticks};
+ghost use Rattle.graph.specs.Refusals.{Passes};
 
-pub(crate) fn is_node(node: i32) -> bool
-    ensures { result ≡ is_node node }
+use crate::parts::{FalseSet, Refusal};
+
+pub(crate) fn node_of(node: i32) -> Result<u8, Refusal>
+    ensures { Passes (is_node node) result (λ n. n ≡ unsigned_abs node) }
 {
-    node >= 0 && node <= 255
+    u8::try_from(node).map_err(|_| Refusal::OutOfRange)
 }
 
-pub(crate) fn is_arc(arc: i32) -> bool
-    ensures { result ≡ is_arc arc }
+pub(crate) fn arc_of(arc: i32) -> Result<u16, Refusal>
+    ensures { Passes (is_arc arc) result (λ n. n ≡ unsigned_abs arc) }
 {
-    arc >= 0 && arc <= 1023
+    match u16::try_from(arc) {
+        Ok(number) if number < 1024 => Ok(number),
+        _ => Err(Refusal::OutOfRange),
+    }
 }
 
-pub(crate) fn is_set(set: i32) -> bool
-    ensures { result ≡ is_set set }
+pub(crate) fn set_of(set: i32) -> Result<FalseSet, Refusal>
+    ensures { Passes (is_set set) result (λ s. s.number ≡ unsigned_abs set) }
 {
-    set >= 0 && set <= 15
+    match u8::try_from(set) {
+        Ok(number) if number < 16 => Ok(FalseSet { number }),
+        _ => Err(Refusal::OutOfRange),
+    }
 }
 
-pub(crate) fn is_ticks(ticks: i32) -> bool
-    ensures { result ≡ is_ticks ticks }
+pub(crate) fn ticks_of(ticks: i32) -> Result<i32, Refusal>
+    ensures { Passes (is_ticks ticks) result (λ t. t ≡ ticks) }
 {
-    ticks >= -1_000_000 && ticks <= 1_000_000
+    if !(-1_000_000..=1_000_000).contains(&ticks) {
+        return Err(Refusal::OutOfRange);
+    }
+    Ok(ticks)
 }

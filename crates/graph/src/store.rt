@@ -1,8 +1,8 @@
-// How a graph and an index of its arcs are stored, and what each keeps.
-ghost use Rattle.std.specs.Prelude.{◌≤◌, length};
+// How a graph and the indexes of its arcs are stored, and what each keeps.
+ghost use Rattle.std.specs.Prelude.{◌≤◌};
 ghost use Rattle.graph.specs.Kept.{Numbered, Rising, NodesInRange, TrimsInRange, TimesInRange};
 ghost use Rattle.graph.specs.Slots.{arcs_of, times_of};
-ghost use Rattle.graph.specs.Sorting.{Stops, Segments};
+ghost use Rattle.graph.specs.Sorting.{Keys, Stops, Segments};
 
 use crate::parts::{ArcSlot, TimeSlot};
 
@@ -23,13 +23,26 @@ pub struct TimingGraph {
     ghost ended: { TimesInRange (times_of ends) },
 }
 
+// A key for each place: the nodes 0 to 255, and 256 for a number that is not live.
+#[derive(Clone, Copy)]
+pub(crate) struct SortKeys {
+    pub(crate) keys: [u16; 1024],
+    ghost below: { Keys keys },
+}
+
 // Arc numbers sorted by the node at one end: `order` has a segment for each node, `ends` where it ends.
 #[derive(Drop)]
 pub struct ArcIndex {
-    pub(crate) keys: [u16; 1024],
+    pub(crate) keys: SortKeys,
     pub(crate) ends: [u16; 257],
     pub(crate) order: [u16; 1024],
-    ghost sized: { length keys ≤ 1024 },
-    ghost stops: { Stops keys ends },
-    ghost segments: { Segments keys order },
+    ghost stops: { Stops keys.keys ends },
+    ghost segments: { Segments keys.keys order },
+}
+
+// The live arcs by their tails and by their heads.
+#[derive(Drop)]
+pub(crate) struct BothEnds {
+    pub(crate) tails: ArcIndex,
+    pub(crate) heads: ArcIndex,
 }

@@ -1,13 +1,11 @@
 // Which nodes a path of live arcs leads to, or comes from, in one sweep over the nodes in their order.
 ghost use Rattle.std.specs.Prelude.{◌≡◌, ℕ, true, false, length, replicate, slice_index_or, slice_set};
-ghost use Rattle.graph.specs.declared.parts.ArcEnd.TheVariants.{Tail, Head};
 ghost use Rattle.graph.specs.Slots.{arcs_of};
 ghost use Rattle.graph.specs.Kept.{Rising};
-ghost use Rattle.graph.specs.Index.{Indexes};
-ghost use Rattle.graph.specs.Paths.{Reach};
-ghost use Rattle.graph.specs.Sweeps.{far_at, Visited};
+ghost use Rattle.graph.specs.Index.{Keyed};
+ghost use Rattle.graph.specs.Sweeps.{far_at, Visited, Reaches};
 
-use crate::order::nth_node;
+use crate::order::nth_from;
 use crate::parts::{ArcEnd, ArcSlot, LiveArc};
 use crate::store::ArcIndex;
 
@@ -29,9 +27,8 @@ fn far_node(arc: LiveArc, end: ArcEnd) -> u8
 }
 
 // Marks the far node of each arc that has the node at the index's end, if the node is marked.
-fn visit(arcs: &[ArcSlot], index: &ArcIndex, end: ArcEnd, node: u8, seen: &mut [bool])
-    requires indexed { Indexes end (arcs_of arcs.now) index.now }
-    requires size { length seen.old ≡ 256 }
+fn visit(arcs: &[ArcSlot], index: &ArcIndex, end: ArcEnd, node: u8, seen: &mut [bool; 256])
+    requires { Keyed end (arcs_of arcs.now) index.now }
     ensures { Visited end (arcs_of arcs.now) node seen.old seen.new }
 {
     if !seen[node as usize] {
@@ -43,32 +40,16 @@ fn visit(arcs: &[ArcSlot], index: &ArcIndex, end: ArcEnd, node: u8, seen: &mut [
     }
 }
 
-// The nodes that a path from `from` leads to.
-pub(crate) fn ahead(arcs: &[ArcSlot], tails: &ArcIndex, from: u8) -> [bool; 256]
+// The nodes that paths from the node lead to, or, by the heads, those that paths to it come from.
+pub(crate) fn sweep(arcs: &[ArcSlot], index: &ArcIndex, end: ArcEnd, node: u8) -> [bool; 256]
     requires rising { Rising (arcs_of arcs.now) }
-    requires indexed { Indexes Tail (arcs_of arcs.now) tails.now }
-    ensures size { length result ≡ 256 }
-    ensures sound { (v : ℕ) → slice_index_or result v false ≡ true → Reach (arcs_of arcs.now) from v }
-    ensures all { (v : ℕ) → Reach (arcs_of arcs.now) from v → slice_index_or result v false ≡ true }
+    requires indexed { Keyed end (arcs_of arcs.now) index.now }
+    ensures sound { (v : ℕ) → slice_index_or result v false ≡ true → Reaches end (arcs_of arcs.now) node v }
+    ensures all { (v : ℕ) → Reaches end (arcs_of arcs.now) node v → slice_index_or result v false ≡ true }
 {
-    let mut seen = only(from);
-    for place in 0..256u16 {
-        visit(arcs, tails, ArcEnd::Tail, nth_node(place), &mut seen);
-    }
-    seen
-}
-
-// The nodes that a path to `to` comes from.
-pub(crate) fn behind(arcs: &[ArcSlot], heads: &ArcIndex, to: u8) -> [bool; 256]
-    requires rising { Rising (arcs_of arcs.now) }
-    requires indexed { Indexes Head (arcs_of arcs.now) heads.now }
-    ensures size { length result ≡ 256 }
-    ensures sound { (v : ℕ) → slice_index_or result v false ≡ true → Reach (arcs_of arcs.now) v to }
-    ensures all { (v : ℕ) → Reach (arcs_of arcs.now) v to → slice_index_or result v false ≡ true }
-{
-    let mut seen = only(to);
-    for place in (0..256u16).rev() {
-        visit(arcs, heads, ArcEnd::Head, nth_node(place), &mut seen);
+    let mut seen = only(node);
+    for place in 0..=255u8 {
+        visit(arcs, index, end, nth_from(end, place), &mut seen);
     }
     seen
 }

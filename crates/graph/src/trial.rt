@@ -4,7 +4,7 @@ ghost use Rattle.graph.specs.Block.{block_of};
 ghost use Rattle.graph.specs.Trials.{Opened, put_back, earlier_of};
 
 use crate::parts::Refusal;
-use crate::ranges::is_arc;
+use crate::ranges::arc_of;
 use crate::store::TimingGraph;
 
 // `refusal` is why the trim was refused, if it was: then the trial changes nothing.
@@ -20,13 +20,8 @@ impl TimingGraph {
     fn trim_of(&self, arc: i32) -> i32
         ensures { result ≡ earlier_of (block_of self.now) arc }
     {
-        if !is_arc(arc) {
-            return 0;
-        }
-        match self.arc(arc as u16) {
-            Some(live) => live.trim,
-            None => 0,
-        }
+        let live = arc_of(arc).ok().and_then(|number| self.arc(number));
+        live.map_or(0, |live| live.trim)
     }
 
     // Sets an arc's trim until the trial ends.

@@ -104,22 +104,19 @@ pub fn run(rt: &impl Abort, acts: &[Act<'_>], expected: &[Reply]) -> Result<(), 
     let mut replies = [DONE; 32];
     assert!(rt; acts.len() <= 32 && expected.len() == acts.len());
     let _graph = session(acts, &mut replies[0..acts.len()])?;
-    for (i, reply) in expected.iter().enumerate() {
-        assert_eq!(rt; replies[i], *reply);
+    for (reply, wanted) in replies.iter().zip(expected) {
+        assert_eq!(rt; *reply, *wanted);
     }
     Ok(())
 }
 
 // The acts are not run, since a trial and its end do not fit, and no reply is written.
-pub fn misnested(rt: &impl Abort, acts: &[Act<'_>]) -> Result<(), Fail> {
+pub fn misnested(rt: &impl Abort, acts: &[Act<'_>]) {
     let mut replies = [NONE; 32];
     assert!(rt; acts.len() <= 32);
-    match session(acts, &mut replies[0..acts.len()]) {
-        Ok(_) => return Err(Fail::new("the acts were run")),
-        Err(misuse) => assert_eq!(rt; misuse, Misuse::Nesting),
-    }
+    let done = session(acts, &mut replies[0..acts.len()]);
+    assert_eq!(rt; done.err(), Some(Misuse::Nesting));
     for reply in replies {
         assert_eq!(rt; reply, NONE);
     }
-    Ok(())
 }

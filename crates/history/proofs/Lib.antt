@@ -1,4 +1,3 @@
-pub mod Histories
 pub mod Stepping
 pub mod Agreeing
 pub mod Settling

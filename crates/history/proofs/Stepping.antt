@@ -1,12 +1,10 @@
 -- Steps that read, as steps of a run.
-use Rattle.std.proofs.Common.{◌≡◌, ℕ, Bool, true, false, List, ℤ, Some, None, sym, refl, ap, ◌∙◌, arith}
-use Rattle.ledger.specs.declared.words.Call.{Call}
+use Rattle.std.proofs.Common.{◌≡◌, ℕ, Bool, true, false, List, Some, None, sym, refl, ap, ◌∙◌, arith}
 use Rattle.std.proofs.lemmas.Bool.{both_ways}
-use Rattle.ledger.specs.declared.words.Act.{Act}
 use Rattle.ledger.specs.declared.words.Act.TheVariants.{Make, Open, Read, End}
 use Rattle.ledger.specs.Answers.{shows}
 use Rattle.ledger.specs.Ledger.{Ledger}
-use Rattle.history.proofs.Histories.{by_next}
+use Rattle.ledger.proofs.Histories.{by_next}
 use Rattle.graph.specs.Block.{arc_at}
 use Rattle.sheet.specs.Tables.{Tables}
 use Rattle.history.specs.declared.steps.Step.{Step}
@@ -14,7 +12,7 @@ use Rattle.history.specs.declared.steps.Step.TheVariants as step
 use Rattle.history.specs.declared.steps.StepReply.{StepReply}
 use Rattle.history.specs.Answers.{answer_of}
 use Rattle.history.specs.Steps.{Terms, State, Goes, open_after, nested}
-use Rattle.history.specs.Readings.{Reads, is_reading}
+use Rattle.history.specs.Readings.{Reads}
 
 module _ {R : Type 0} (k : Terms R) (l : Ledger) (t : Tables R) (list : List ℕ) (t' : Tables R) (list' : List ℕ) where
   abbrev pub before : State R
@@ -65,10 +63,3 @@ module _ {R : Type 0} (k : Terms R) (l : Ledger) (t : Tables R) (list : List ℕ
   unanswered_step (step.Act (Read n)) xs r h = no_reply r.reply (sym r.reply_is)
   unanswered_step step.Time xs r h = no_reply r.reply (sym r.reply_is)
   unanswered_step (step.Trace node) xs r h = no_reply r.reply (sym r.reply_is)
-
--- where no trial is open, an act that is neither a call nor an opening only reads
-pub reading_left : (x : Act) (xs : List Step) → ((c : Call) → x ≡ Make c → ⊥) → ((n d : ℤ) → x ≡ Open n d → ⊥) → by_next open_after (open_after (step.Act x) false) xs ≡ true → is_reading (step.Act x) ≡ true
-reading_left (Make c) xs p q h = absurd (p c refl)
-reading_left (Open n d) xs p q h = absurd (q n d refl)
-reading_left (Read n) xs p q h = refl
-reading_left End xs p q h = h

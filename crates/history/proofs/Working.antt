@@ -7,7 +7,7 @@ use Rattle.graph.proofs.Keeping.{kept_blank}
 use Rattle.ledger.specs.declared.words.Call.{Call}
 use Rattle.ledger.specs.declared.words.Act.TheVariants.{Make}
 use Rattle.ledger.specs.Ledger.{closed}
-use Rattle.history.proofs.Histories.{runs_append}
+use Rattle.ledger.proofs.Histories.{runs_append}
 use Rattle.ledger.proofs.Undoing.{kept_acts}
 use Rattle.std.specs.Result.{result_unwrap_or}
 use Rattle.paths.specs.Graphs.{by_node, row_block, node_count}

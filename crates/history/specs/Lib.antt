@@ -1,4 +1,3 @@
-pub mod Histories
 pub mod Answers
 pub mod Steps
 pub mod Laws

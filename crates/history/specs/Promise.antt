@@ -7,7 +7,7 @@ use Rattle.ledger.specs.declared.words.Act.{Act}
 use Rattle.ledger.specs.Answers as answers
 use Rattle.ledger.specs.Ledger as ledger
 use Rattle.ledger.specs.Ledger.{closed}
-use Rattle.paths.specs.Rows.{Rows, Before, rows}
+use Rattle.paths.specs.Rows.{Rows, Before}
 use Rattle.paths.specs.Blocks.{RowBlock}
 use Rattle.paths.specs.Paths.{numbers, Through, slack}
 use Rattle.paths.specs.Graphs.{Untimed, by_node, row_block, node_count, Mirrors, Stops}
@@ -23,7 +23,7 @@ use Rattle.timing.specs.Refusals.{refused_time, stopped}
 use Rattle.history.specs.declared.steps.Step.{Step}
 use Rattle.history.specs.declared.steps.Step.TheVariants as step
 use Rattle.history.specs.Answers.{Answer, acted, timed, traced}
-use Rattle.history.specs.Steps.{Terms, State, new, Goes, Runs}
+use Rattle.history.specs.Steps.{Terms, State, terms, new, Goes, Runs}
 
 -- ---- the acts of a history
 abbrev pub acts_of : List Step → List Act
@@ -102,7 +102,7 @@ pub record EachTiming {R : Type 0} (k : Terms R) (s : State R) (before after : L
 abbrev pub HistoriesAgree : (w : ℕ) → (Row w → Row w → Bool) → (ℤ → Row w) → (ℤ → Row w) → Type 0
 HistoriesAgree w not_later row_of_time row_of_arc =
     (means : ℕ → Entry) (tables : Tables (Row w)) (list : List ℕ) (steps : List Step) (given : List Answer) (s : State (Row w))
-    → Runs (record { rows = rows w not_later; row_of_time = row_of_time; row_of_arc = row_of_arc; means = means }) (new tables list) steps given s
+    → Runs (terms w not_later row_of_time row_of_arc means) (new tables list) steps given s
     → ledger.Runs (closed blank) (acts_of steps) (act_answers given) s.ledger
     × ((before after : List Step) → steps ≡ before ++ (step.Time ∷ after)
-    → EachTiming (record { rows = rows w not_later; row_of_time = row_of_time; row_of_arc = row_of_arc; means = means }) (new tables list) before after given s)
+    → EachTiming (terms w not_later row_of_time row_of_arc means) (new tables list) before after given s)

@@ -7,8 +7,10 @@ use Rattle.ledger.specs.declared.words.Misuse.TheVariants.{Lengths, Nesting}
 use Rattle.ledger.specs.Answers as answers
 use Rattle.ledger.specs.Ledger as ledger
 use Rattle.ledger.specs.Ledger.{Ledger, closed, Acts}
-use Rattle.history.specs.Histories.{RunsBy, nested_by}
-use Rattle.paths.specs.Rows.{Rows}
+use Rattle.ledger.specs.Histories.{RunsBy, nested_by}
+use Rattle.measure.specs.declared.measure.Measure.{Ghosts as Measure}
+use Rattle.measure.specs.Rows.{Row}
+use Rattle.paths.specs.Rows.{Rows, rows}
 use Rattle.paths.specs.Graphs.{by_node, row_block}
 use Rattle.sheet.specs.Tables.{Tables}
 use Rattle.sheet.specs.Traces.{trace_outcome}
@@ -25,15 +27,27 @@ pub record Terms (R : Type 0) : Type 0 where
   pub row_of_arc : ℤ → R
   pub means : ℕ → Entry
 
+-- for the rows of one measure
+abbrev pub terms : (w : ℕ) → (Row w → Row w → Bool) → (ℤ → Row w) → (ℤ → Row w) → (ℕ → Entry) → Terms (Row w)
+terms w not_later row_of_time row_of_arc means = record { rows = rows w not_later; row_of_time = row_of_time; row_of_arc = row_of_arc; means = means }
+
+-- by what a measure names of itself
+abbrev pub terms_of : {M : Type 0} → (m : Measure M) → (ℕ → Entry) → Terms (Row m.width)
+terms_of m means = terms m.width m.not_later m.row_of_time m.row_of_arc means
+
 -- the ledger of the acts, and the tables and the list of arcs that the timer writes
 pub record State (R : Type 0) : Type 0 where
   pub ledger : Ledger
   pub tables : Tables R
   pub list : List ℕ
 
+-- a graph with no trial open
+abbrev pub at_rest : {R : Type 0} → Block → Tables R → List ℕ → State R
+at_rest b tables list = record { ledger = closed b; tables = tables; list = list }
+
 -- a new graph, with tables and a list of any content
 abbrev pub new : {R : Type 0} → Tables R → List ℕ → State R
-new tables list = record { ledger = closed blank; tables = tables; list = list }
+new tables list = at_rest blank tables list
 
 -- a timing of the ledger's block, and a trace in the tables as they are
 abbrev pub timing_of : {R : Type 0} → Terms R → Block → Tables R → TimeOutcome R

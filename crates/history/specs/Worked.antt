@@ -6,8 +6,6 @@ use Rattle.ledger.specs.declared.words.Call.{Call}
 use Rattle.ledger.specs.declared.words.Call.TheVariants.{AddArc, SetStart, SetEnd, Pair}
 use Rattle.ledger.specs.declared.words.Act.TheVariants.{Make}
 use Rattle.ledger.specs.Answers.{done, taken}
-use Rattle.ledger.specs.Ledger.{closed}
-use Rattle.paths.specs.Rows.{rows}
 use Rattle.paths.specs.Blocks.{RowBlock}
 use Rattle.paths.specs.Sheets.{Timed}
 use Rattle.paths.specs.Cases.{in_ticks, not_after, time_row, arc_row, delays}
@@ -17,7 +15,7 @@ use Rattle.sheet.specs.Traces.{no_arcs}
 use Rattle.history.specs.declared.steps.Step.{Step}
 use Rattle.history.specs.declared.steps.Step.TheVariants as step
 use Rattle.history.specs.Answers.{Answer, acted, timed, traced}
-use Rattle.history.specs.Steps.{Terms, new, Runs}
+use Rattle.history.specs.Steps.{Terms, terms, at_rest, new, Runs}
 use Rattle.history.specs.Promise.{Accepted}
 
 -- two ways from node 0 to node 2: over node 1 in 20 ticks, and straight in 15. Set 0 holds arc 0 alone, so that the slower way is false.
@@ -36,7 +34,7 @@ worked_answers =
 
 -- ticks, and an annotated table with 10, 10 and 15
 abbrev pub worked_terms : Terms (Row 1)
-worked_terms = record { rows = rows 1 (not_after in_ticks); row_of_time = time_row in_ticks; row_of_arc = arc_row in_ticks; means = delays (pos 10 ∷ pos 10 ∷ pos 15 ∷ []) }
+worked_terms = terms 1 (not_after in_ticks) (time_row in_ticks) (arc_row in_ticks) (delays (pos 10 ∷ pos 10 ∷ pos 15 ∷ []))
 
 -- blank tables of 16 lines
 abbrev pub worked_tables : Tables (Row 1)
@@ -54,7 +52,7 @@ pub record WorkedHistory : Type 0 where
   pub block : RowBlock (Row 1)
   pub lines : List (Timed (Row 1))
   pub tables : Tables (Row 1)
-  pub ran : Runs worked_terms (new worked_tables (no_arcs 255)) worked_steps worked_answers (record { ledger = closed content; tables = tables; list = 2 ∷ no_arcs 254 })
+  pub ran : Runs worked_terms (new worked_tables (no_arcs 255)) worked_steps worked_answers (at_rest content tables (2 ∷ no_arcs 254))
   pub accepted : Accepted worked_terms content worked_tables (timed (Ok 2)) tables block lines
   pub entry_of_2 : slice_index_or tables.nodes 2 blank_entry ≡ record { timed = true; line = 1 }
   pub slack_of_2 : slice_index_or tables.slacks 2 (zeros 1) ≡ (pos 8, tt)

@@ -1,8 +1,8 @@
 // A step that only reads the graph: what an arc is, a timing, or a trace.
 ghost use Rattle.std.specs.Prelude.{◌≡◌};
 ghost use Rattle.graph.specs.Block.{block_of};
-ghost use Rattle.paths.specs.Rows.{rows as measured};
-ghost use Rattle.sheet.specs.Tables.{tables_of};
+ghost use Rattle.sheet.specs.Lent.{tables_in, SameLoans};
+ghost use Rattle.history.specs.Steps.{terms_of};
 ghost use Rattle.history.specs.Readings.{Reads};
 
 use crate::steps::{Step, StepReply};
@@ -10,7 +10,7 @@ use delay::Source;
 use graph::TimingGraph;
 use ledger::{Act, Reply};
 use measure::Measure;
-use sheet::{Line, NodeEntry, trace};
+use sheet::{TablesMut, trace};
 use timing::time;
 
 // Makes a step that reads, and gives its answer; nothing for a call and for a trial's opening or end, which are not made.
@@ -18,25 +18,18 @@ pub(crate) fn read<M: Measure, S: Source>(
     graph: &TimingGraph,
     step: Step<'_>,
     source: &mut S,
-    lines: &mut [Line],
-    arrivals: &mut [M],
-    required: &mut [M],
-    nodes: &mut [NodeEntry],
-    slacks: &mut [M],
+    tables: &mut TablesMut<'_, M>,
     list: &mut [u16],
 ) -> Option<StepReply>
-    ensures reads { Reads (record { rows = measured M.Measure.width M.Measure.not_later; row_of_time = M.Measure.row_of_time; row_of_arc = M.Measure.row_of_arc; means = S.Source.means source.old }) (block_of graph.now) step.entry (tables_of M.Measure.row lines.old arrivals.old required.old nodes.old slacks.old) list.old result (tables_of M.Measure.row lines.new arrivals.new required.new nodes.new slacks.new) list.new }
+    ensures reads { Reads (terms_of M.Measure (S.Source.means source.old)) (block_of graph.now) step.entry (tables_in M.Measure.row tables.old) list.old result (tables_in M.Measure.row tables.new) list.new }
+    ensures loans { SameLoans tables.old tables.new }
     ensures same { S.Source.means source.new ≡ S.Source.means source.old }
     ensures level { S.Source.depth source.new ≡ S.Source.depth source.old }
 {
     match step {
         Step::Act(Act::Read { arc }) => Some(StepReply::Act(Reply::Shown(graph.arc(arc)))),
         Step::Act(_) => None,
-        Step::Time => Some(StepReply::Time(time(
-            graph, source, lines, arrivals, required, nodes, slacks,
-        ))),
-        Step::Trace { node } => Some(StepReply::Trace(trace(
-            node, lines, arrivals, required, nodes, slacks, list,
-        ))),
+        Step::Time => Some(StepReply::Time(time(graph, source, tables))),
+        Step::Trace { node } => Some(StepReply::Trace(trace(node, &tables.shared(), list))),
     }
 }

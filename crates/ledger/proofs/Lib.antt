@@ -1,3 +1,4 @@
+pub mod Histories
 pub mod Running
 pub mod Settling
 pub mod Undoing

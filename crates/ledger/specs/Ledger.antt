@@ -1,5 +1,5 @@
 -- The ledger, kept from the acts alone, and a run of acts.
-use Rattle.std.specs.Prelude.{◌≡◌, ℕ, Bool, true, false, cond, not, List, [], ◌∷◌, length, ℤ, Some, None, Ok, Err, Option, Result, ◌≢◌}
+use Rattle.std.specs.Prelude.{◌≡◌, ℕ, Bool, true, false, cond, List, length, ℤ, Some, None, Ok, Err, Option, Result, ◌≢◌}
 use Rattle.graph.specs.Block.{Block, with_trim, arc_at}
 use Rattle.graph.specs.Trials.{earlier_of}
 use Rattle.ledger.specs.declared.words.Act.{Act}
@@ -9,6 +9,7 @@ use Rattle.ledger.specs.declared.words.Misuse.{Misuse}
 use Rattle.ledger.specs.declared.words.Misuse.TheVariants.{Lengths, Nesting}
 use Rattle.ledger.specs.Answers.{Answer, done, shows, call_answer}
 use Rattle.ledger.specs.Calls.{Calls}
+use Rattle.ledger.specs.Histories.{RunsBy, nested_by}
 
 -- the trial of a ledger: none is open, a refused one is, or an accepted one, with its arc and that arc's earlier trim
 pub data Trying : Type 0 where
@@ -46,10 +47,7 @@ Acts l End a l' = (l.trial ≢ no_trial) × (a ≡ done) × (l' ≡ closed (put_
 
 -- the acts in their order, each with its answer
 abbrev pub Runs : Ledger → List Act → List Answer → Ledger → Type 0
-Runs l [] [] l' = l' ≡ l
-Runs l [] (a ∷ answers) l' = ⊥
-Runs l (x ∷ xs) [] l' = ⊥
-Runs l (x ∷ xs) (a ∷ answers) l' = (m : Ledger) × Acts l x a m × Runs m xs answers l'
+Runs l acts answers l' = RunsBy Acts l acts answers l'
 
 -- whether a trial is open after an act, where the flag says whether one is before it; nothing where the act may not come
 abbrev pub open_after : Act → Bool → Option Bool
@@ -60,8 +58,7 @@ open_after End trying = cond trying (Some false) None
 
 -- each trial is ended before the next call, and the last before the end
 abbrev pub nested : List Act → Bool → Bool
-nested [] trying = not trying
-nested (x ∷ xs) trying = elim (open_after x trying) [ None ↦ false | Some after ↦ nested xs after ]
+nested acts trying = nested_by open_after acts trying
 
 -- when a list of acts is not run
 abbrev pub Misused : Misuse → List Act → List Reply → Type 0

@@ -1,4 +1,5 @@
 pub mod Answers
 pub mod Calls
+pub mod Histories
 pub mod Ledger
 pub mod Laws

@@ -7,43 +7,28 @@ ghost use Rattle.ledger.specs.Answers.{answer_of, open_answer};
 ghost use Rattle.ledger.specs.Ledger.{closed, Runs, open_after, nested, Misused};
 
 use crate::calls::make;
+use crate::nesting::{Nesting, nests};
 use crate::words::{Act, Misuse, Reply};
 use graph::{Refusal, TimingGraph};
 
-// Whether a trial is open after the act, where `trying` says whether one is before it; nothing where the act may not come.
-pub fn open_after(act: Act<'_>, trying: bool) -> Option<bool>
-    ensures { result ≡ open_after act.entry trying }
-{
-    match act {
-        Act::Make(_) => if trying { None } else { Some(false) },
-        Act::Open { .. } => if trying { None } else { Some(true) },
-        Act::Read { .. } => Some(trying),
-        Act::End => if trying { Some(false) } else { None },
-    }
-}
+impl Nesting for Act<'_> {
+    ghost after = { open_after };
 
-// Is each trial ended before the next call, and the last before the end?
-fn nests(acts: &[Act<'_>]) -> bool
-    ensures { result ≡ nested acts.now false }
-{
-    let mut trying = false;
-    for act in acts {
-        let Some(after) = open_after(*act, trying) else {
-            return false;
-        };
-        trying = after;
+    fn open_after(&self, trying: bool) -> Option<bool> {
+        match self {
+            Act::Make(_) => (!trying).then_some(false),
+            Act::Open { .. } => (!trying).then_some(true),
+            Act::Read { .. } => Some(trying),
+            Act::End => trying.then_some(false),
+        }
     }
-    !trying
 }
 
 // What the opening of a trial answers.
 pub fn opening(refusal: Option<Refusal>) -> Reply
     ensures { answer_of result ≡ open_answer (option_map refusal_number refusal) }
 {
-    match refusal {
-        None => Reply::Done,
-        Some(refusal) => Reply::Refused(refusal),
-    }
+    refusal.map_or(Reply::Done, Reply::Refused)
 }
 
 // Runs the trial that opens at `at`, and gives the place after its end.
@@ -67,13 +52,14 @@ fn under_trial(
 {
     let trial = graph.trial(arc, ticks);
     replies[at] = opening(trial.refusal());
-    let mut i = at + 1;
-    while let Act::Read { arc } = acts[i] {
+    for i in at + 1..acts.len() {
+        let Act::Read { arc } = acts[i] else {
+            replies[i] = Reply::Done;
+            return i + 1;
+        };
         replies[i] = Reply::Shown(trial.graph().arc(arc));
-        i += 1;
     }
-    replies[i] = Reply::Done;
-    i + 1
+    unreachable()
 }
 
 // Runs the acts on a new graph, and writes what each answers.
@@ -90,6 +76,7 @@ pub fn session(acts: &[Act<'_>], replies: &mut [Reply]) -> Result<TimingGraph, M
     }
     let mut graph = TimingGraph::new();
     let mut i = 0;
+    // a trial borrows the graph for as many acts as it has, so one turn can take many
     while i < acts.len() {
         match acts[i] {
             Act::Make(call) => {

@@ -4,9 +4,11 @@
 mod calls;
 mod history;
 mod laws;
+mod nesting;
 mod words;
 
 pub use calls::make;
-pub use history::{open_after, opening, session};
+pub use history::{opening, session};
 pub use laws::{acts_settle, ledgers_keep, sets_hold_pairs, trials_leave_nothing};
+pub use nesting::{Nesting, nests};
 pub use words::{Act, Call, Misuse, Reply};

@@ -6,11 +6,6 @@ use graph::TimingGraph;
 // Arcs have numbers below this.
 pub const MOST_ARCS: u16 = 14;
 
-const NO_ROW: AnnotatedRow = AnnotatedRow {
-    marked: false,
-    ticks: 0,
-};
-
 #[derive(Drop)]
 pub struct RandomBlock {
     pub graph: TimingGraph,
@@ -40,11 +35,8 @@ fn add_bounds(graph: &mut TimingGraph, dice: &mut Dice, nodes: u16) {
 }
 
 fn add_delays(rows: &mut [AnnotatedRow; 1024], dice: &mut Dice) {
-    for arc in 0..MOST_ARCS {
-        rows[arc as usize] = AnnotatedRow {
-            marked: true,
-            ticks: dice.number(-5, 21),
-        };
+    for row in rows.iter_mut().take(MOST_ARCS as usize) {
+        *row = AnnotatedRow::new(dice.number(-5, 21));
     }
 }
 
@@ -70,7 +62,7 @@ fn change(graph: &mut TimingGraph, dice: &mut Dice, nodes: u16) {
 pub fn random_block(dice: &mut Dice) -> RandomBlock {
     let mut block = RandomBlock {
         graph: TimingGraph::new(),
-        rows: [NO_ROW; 1024],
+        rows: [AnnotatedRow::BLANK; 1024],
     };
     let nodes = dice.roll(5).saturating_add(5);
     add_arcs(&mut block.graph, dice, nodes);

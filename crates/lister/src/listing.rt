@@ -17,23 +17,18 @@ pub struct Listed {
 
 // The first arc from index `at` on that leaves the node, with its index.
 fn next_arc(arcs: &[PlainArc], node: u8, at: usize) -> Option<(usize, PlainArc)> {
-    for i in at..arcs.len() {
-        let arc = arcs[i];
-        if arc.from == node {
-            return Some((i, arc));
-        }
-    }
-    None
+    let (i, arc) = arcs
+        .iter()
+        .enumerate()
+        .skip(at)
+        .find(|(_, arc)| arc.from == node)?;
+    Some((i, *arc))
 }
 
 fn note(least: &mut [Option<PlainRow>], node: u8, slack: PlainRow) {
-    let Some(place) = least.get_mut(node as usize) else {
-        return;
-    };
-    *place = match *place {
-        Some(known) => Some(known.least(slack)),
-        None => Some(slack),
-    };
+    if let Some(place) = least.get_mut(node as usize) {
+        *place = Some(place.map_or(slack, |known| known.min(slack)));
+    }
 }
 
 fn note_all(least: &mut [Option<PlainRow>], from: u8, path: &[PlainArc], slack: PlainRow) {
@@ -57,10 +52,7 @@ fn visit(listed: &mut Listed, block: &PlainBlock, from: u8, path: &[PlainArc], r
 }
 
 fn last_node(from: u8, path: &[PlainArc]) -> u8 {
-    match path.last() {
-        Some(arc) => arc.to,
-        None => from,
-    }
+    path.last().map_or(from, |arc| arc.to)
 }
 
 // Every path from a node: each is longer by the first arc that leads on, or goes on with the arc behind its last.
@@ -105,8 +97,7 @@ pub fn list_paths(
         closed: 0,
         finished: true,
     };
-    for node in 0..256u16 {
-        let node = (node & 255) as u8;
+    for node in 0..=255 {
         if block.start(node).is_some() {
             list_from(heap, &mut listed, block, node, reading)?;
         }

@@ -9,13 +9,17 @@ mod listing;
 mod plain;
 
 use blocks::random_block;
-use compare::{Tally, compare_block, new_tables};
+use compare::{Tally, compare_block};
 use dice::Dice;
 use measure::{Early, Measure, StagedTicks, Ticks};
 use plain::Reading;
 use std::io;
+use tables::Tables;
 
 const BLOCKS: u32 = 2000;
+
+// More lines than any block of this size has.
+const LINES: usize = 200;
 
 // Compares blocks of one measure, and says what came of it.
 fn compare_all<M: Measure>(
@@ -24,14 +28,8 @@ fn compare_all<M: Measure>(
     reading: Reading,
     dice: &mut Dice,
 ) -> io::Result<()> {
-    let mut tables = new_tables::<M>(rt.alloc())?;
-    let mut tally = Tally {
-        blocks: 0,
-        slacks: 0,
-        paths: 0,
-        closed: 0,
-        mismatches: 0,
-    };
+    let mut tables = Tables::<M>::blank(rt.alloc(), LINES)?;
+    let mut tally = Tally::default();
     for _ in 0..BLOCKS {
         let block = random_block(dice);
         compare_block(rt.alloc(), &mut tables, &block, reading, &mut tally)?;
@@ -47,14 +45,10 @@ fn compare_all<M: Measure>(
     println!(rt; "{paths} paths, {closed} of them closed, {mismatches} mismatches")
 }
 
-fn reading(staged: bool, early: bool) -> Reading {
-    Reading { staged, early }
-}
-
 fn main(rt: HostRuntime) -> io::Result<()> {
     let mut dice = Dice::new(2_024);
-    compare_all::<Ticks>(&rt, "ticks", reading(false, false), &mut dice)?;
-    compare_all::<StagedTicks>(&rt, "staged", reading(true, false), &mut dice)?;
-    compare_all::<Early<Ticks>>(&rt, "early", reading(false, true), &mut dice)?;
-    compare_all::<Early<StagedTicks>>(&rt, "early staged", reading(true, true), &mut dice)
+    compare_all::<Ticks>(&rt, "ticks", Reading::Ticks, &mut dice)?;
+    compare_all::<StagedTicks>(&rt, "staged", Reading::Staged, &mut dice)?;
+    compare_all::<Early<Ticks>>(&rt, "early", Reading::Early, &mut dice)?;
+    compare_all::<Early<StagedTicks>>(&rt, "early staged", Reading::EarlyStaged, &mut dice)
 }

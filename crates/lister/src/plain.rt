@@ -20,48 +20,31 @@ pub struct PlainBlock {
     pub ends: Vec<Option<i32>>,
 }
 
-// A slack, which is a number of ticks and then one of arcs.
-#[derive(Clone, Copy, PartialEq, Debug)]
+// A slack, which is a number of ticks and then one of arcs. The derived order is by ticks, then by arcs.
+#[derive(Clone, Copy, PartialEq, Eq, PartialOrd, Ord, Debug)]
 pub struct PlainRow {
     pub ticks: i64,
     pub stages: i64,
 }
 
-impl PlainRow {
-    // The lesser of two.
-    pub fn least(self, other: PlainRow) -> PlainRow {
-        let first = self.ticks < other.ticks;
-        let same = self.ticks == other.ticks;
-        if first || (same && self.stages <= other.stages) {
-            self
-        } else {
-            other
-        }
-    }
-}
-
-// How a measure reads a slack.
+// How a measure reads a slack of so many ticks over so many arcs.
 #[derive(Clone, Copy)]
-pub struct Reading {
-    pub staged: bool,
-    pub early: bool,
+pub enum Reading {
+    Ticks,
+    Staged,
+    Early,
+    EarlyStaged,
 }
 
 impl Reading {
-    // The row of a slack of so many ticks over so many arcs.
     pub fn row(self, ticks: i64, arcs: i64) -> PlainRow {
-        let stages = if self.staged { arcs } else { 0 };
-        let late = PlainRow {
-            ticks,
-            stages: 0i64.wrapping_sub(stages),
+        let (ticks, stages) = match self {
+            Reading::Ticks => (ticks, 0),
+            Reading::Staged => (ticks, arcs.wrapping_neg()),
+            Reading::Early => (ticks.wrapping_neg(), 0),
+            Reading::EarlyStaged => (ticks.wrapping_neg(), arcs),
         };
-        if !self.early {
-            return late;
-        }
-        PlainRow {
-            ticks: 0i64.wrapping_sub(ticks),
-            stages,
-        }
+        PlainRow { ticks, stages }
     }
 }
 
@@ -71,8 +54,8 @@ fn plain_arcs(
     rows: &[AnnotatedRow],
 ) -> Result<Vec<PlainArc>, AllocError> {
     let mut arcs = Vec::new(heap);
-    for number in 0..1024u16 {
-        let (Some(live), Some(row)) = (graph.arc(number), rows.get(number as usize)) else {
+    for (number, row) in (0..1024u16).zip(rows) {
+        let Some(live) = graph.arc(number) else {
             continue;
         };
         arcs.push(PlainArc {
@@ -91,56 +74,42 @@ pub fn plain_block(
     graph: &TimingGraph,
     rows: &[AnnotatedRow],
 ) -> Result<PlainBlock, AllocError> {
-    let mut starts = Vec::new(heap);
-    let mut ends = Vec::new(heap);
-    for node in 0..256u16 {
-        starts.push(graph.start((node & 255) as u8))?;
-        ends.push(graph.end((node & 255) as u8))?;
-    }
     Ok(PlainBlock {
         arcs: plain_arcs(heap, graph, rows)?,
-        starts,
-        ends,
+        starts: (0..=255).map(|node| graph.start(node)).collect(heap)?,
+        ends: (0..=255).map(|node| graph.end(node)).collect(heap)?,
     })
 }
 
 impl PlainBlock {
     pub fn start(&self, node: u8) -> Option<i32> {
-        self.starts.get(node as usize).copied().unwrap_or(None)
+        *self.starts.get(node as usize)?
     }
 
     pub fn end(&self, node: u8) -> Option<i32> {
-        self.ends.get(node as usize).copied().unwrap_or(None)
+        *self.ends.get(node as usize)?
+    }
+
+    // The sets with an arc that leaves the node.
+    fn leaving(&self, node: u8) -> u16 {
+        let arcs = self.arcs.iter().filter(|arc| arc.from == node);
+        arcs.fold(0, |sets, arc| sets | arc.sets)
+    }
+
+    // The sets with an arc that enters the node.
+    fn entering(&self, node: u8) -> u16 {
+        let arcs = self.arcs.iter().filter(|arc| arc.to == node);
+        arcs.fold(0, |sets, arc| sets | arc.sets)
     }
 
     // The sets that begin at a node: an arc of the set leaves it and none enters it.
     fn begin_sets(&self, node: u8) -> u16 {
-        let mut leaving = 0u16;
-        let mut entering = 0u16;
-        for arc in self.arcs.iter() {
-            if arc.from == node {
-                leaving |= arc.sets;
-            }
-            if arc.to == node {
-                entering |= arc.sets;
-            }
-        }
-        leaving & !entering
+        self.leaving(node) & !self.entering(node)
     }
 
     // The sets that end at a node: an arc of the set enters it and none leaves it.
     fn end_sets(&self, node: u8) -> u16 {
-        let mut leaving = 0u16;
-        let mut entering = 0u16;
-        for arc in self.arcs.iter() {
-            if arc.from == node {
-                leaving |= arc.sets;
-            }
-            if arc.to == node {
-                entering |= arc.sets;
-            }
-        }
-        entering & !leaving
+        self.entering(node) & !self.leaving(node)
     }
 
     // Is there a stretch from the first of these arcs on, all in one set, from where that set begins to where it ends?
@@ -160,12 +129,9 @@ impl PlainBlock {
 
     // Does no stretch of the path run through a set from where it begins to where it ends?
     pub fn is_open(&self, path: &[PlainArc]) -> bool {
-        for i in 0..path.len() {
-            if self.closes_at_once(&path[i..]) {
-                return false;
-            }
-        }
-        true
+        (0..path.len())
+            .filter_map(|i| path.get(i..))
+            .all(|rest| !self.closes_at_once(rest))
     }
 
     // The slack of a path from a node over some arcs, where it is complete.

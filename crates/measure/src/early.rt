@@ -1,4 +1,5 @@
 // Any measure with times and arcs counted the other way, so that its latest is the earliest below.
+ghost use Rattle.std.specs.Prelude.{◌≡◌};
 ghost use Rattle.measure.specs.Rows.{negated};
 ghost use Rattle.measure.specs.Bounds.{bounded_negated};
 ghost use Rattle.std.proofs.Common.{rules};
@@ -9,6 +10,17 @@ use crate::measure::Measure;
 #[derive(Clone, Copy, PartialEq, Eq, Debug)]
 pub struct Early<M> {
     value: M,
+}
+
+impl<M: Measure> Early<M> {
+    // What means the opposite of the value.
+    fn mirrored(value: M) -> Early<M>
+        ensures { M.Measure.row result.value ≡ negated M.Measure.width (M.Measure.row value) }
+    {
+        Early {
+            value: value.opposite(),
+        }
+    }
 }
 
 impl<M: Measure> Measure for Early<M> {
@@ -45,28 +57,19 @@ impl<M: Measure> Measure for Early<M> {
     }
 
     fn time(t: i32) -> Option<Early<M>> {
-        let time = M::time(t)?;
-        Some(Early {
-            value: time.opposite(),
-        })
+        M::time(t).map(Early::mirrored)
     }
 
     fn arc(d: i32) -> Option<Early<M>> {
-        let arc = M::arc(d)?;
-        Some(Early {
-            value: arc.opposite(),
-        })
+        M::arc(d).map(Early::mirrored)
     }
 
     fn sum(self, other: Early<M>) -> Option<Early<M>> {
-        let value = self.value.sum(other.value)?;
-        Some(Early { value })
+        self.value.sum(other.value).map(|value| Early { value })
     }
 
     fn opposite(self) -> Early<M> {
-        Early {
-            value: self.value.opposite(),
-        }
+        Early::mirrored(self.value)
     }
 
     fn not_after(self, other: Early<M>) -> bool {

@@ -10,7 +10,14 @@ pub const PLACE_LIMIT: i32 = 1_000_000_000;
 pub fn is_tick_count(t: i32) -> bool
     ensures { MatchBool result (Within 1000000 t) (Within 1000000 t → ⊥) }
 {
-    -TICK_LIMIT <= t && t <= TICK_LIMIT
+    (-TICK_LIMIT..=TICK_LIMIT).contains(&t)
+}
+
+// `t` itself, if it is a tick count.
+pub(crate) fn tick_count(t: i32) -> Option<i32>
+    ensures { MatchOption result (Within 1000000 t → ⊥) (λ n. Within 1000000 n × (n ≡ t)) }
+{
+    is_tick_count(t).then_some(t)
 }
 
 // One place of a sum, or nothing where it leaves the range of a place.
@@ -19,9 +26,5 @@ pub(crate) fn add_places(a: i32, b: i32) -> Option<i32>
     ensures { MatchOption result (Within 1000000000 (a +ℤ b) → ⊥) (λ s. Within 1000000000 s × (s ≡ a +ℤ b)) }
 {
     let sum = a + b;
-    if -PLACE_LIMIT <= sum && sum <= PLACE_LIMIT {
-        Some(sum)
-    } else {
-        None
-    }
+    (-PLACE_LIMIT..=PLACE_LIMIT).contains(&sum).then_some(sum)
 }

@@ -1,11 +1,11 @@
 // The measure of two places: ticks and, where those are equal, the number of arcs.
-ghost use Rattle.std.specs.Prelude.{pos};
-ghost use Rattle.measure.specs.Rows.{Within, lex_le};
+ghost use Rattle.std.specs.Prelude.{◌≡◌, ℤ, pos};
+ghost use Rattle.measure.specs.Rows.{Within, lex_le, on_some, entered};
 ghost use Rattle.std.proofs.Common.{arith, rules};
 ghost use Rattle.std.proofs.lemmas.Int.{ints};
 ghost use Rattle.measure.specs.Lex.{lex_order};
 
-use crate::limits::{add_places, is_tick_count};
+use crate::limits::{add_places, tick_count};
 use crate::measure::Measure;
 
 #[repr(C)]
@@ -15,6 +15,15 @@ pub struct StagedTicks {
     stages: i32,
     ghost ticks_ok: { Within 1000000000 ticks },
     ghost stages_ok: { Within 1000000000 stages },
+}
+
+// So many ticks with so many stages, where the ticks are a tick count.
+fn staged(ticks: i32, stages: i32) -> Option<StagedTicks>
+    requires { Within 1000000000 stages }
+    ensures { on_some {B = ℤ × ℤ} (λ x. (x.ticks, x.stages)) result ≡ entered (λ t. (t, stages)) ticks }
+{
+    let ticks = tick_count(ticks)?;
+    Some(StagedTicks { ticks, stages })
 }
 
 impl Measure for StagedTicks {
@@ -52,25 +61,11 @@ impl Measure for StagedTicks {
     }
 
     fn time(t: i32) -> Option<StagedTicks> {
-        if is_tick_count(t) {
-            Some(StagedTicks {
-                ticks: t,
-                stages: 0,
-            })
-        } else {
-            None
-        }
+        staged(t, 0)
     }
 
     fn arc(d: i32) -> Option<StagedTicks> {
-        if is_tick_count(d) {
-            Some(StagedTicks {
-                ticks: d,
-                stages: 1,
-            })
-        } else {
-            None
-        }
+        staged(d, 1)
     }
 
     fn sum(self, other: StagedTicks) -> Option<StagedTicks> {
@@ -87,7 +82,7 @@ impl Measure for StagedTicks {
     }
 
     fn not_after(self, other: StagedTicks) -> bool {
-        self.ticks < other.ticks || (self.ticks == other.ticks && self.stages <= other.stages)
+        (self.ticks, self.stages) <= (other.ticks, other.stages)
     }
 
     fn place(self, i: usize) -> Option<i32> {

@@ -3,7 +3,7 @@ ghost use Rattle.measure.specs.Rows.{Within, lex_le};
 ghost use Rattle.std.proofs.Common.{arith, rules};
 ghost use Rattle.measure.specs.Lex.{lex_order};
 
-use crate::limits::{add_places, is_tick_count};
+use crate::limits::{add_places, tick_count};
 use crate::measure::Measure;
 
 #[repr(C)]
@@ -39,11 +39,8 @@ impl Measure for Ticks {
     }
 
     fn time(t: i32) -> Option<Ticks> {
-        if is_tick_count(t) {
-            Some(Ticks { ticks: t })
-        } else {
-            None
-        }
+        let ticks = tick_count(t)?;
+        Some(Ticks { ticks })
     }
 
     fn arc(d: i32) -> Option<Ticks> {
@@ -64,6 +61,6 @@ impl Measure for Ticks {
     }
 
     fn place(self, i: usize) -> Option<i32> {
-        if i == 0 { Some(self.ticks) } else { None }
+        (i == 0).then_some(self.ticks)
     }
 }

@@ -1,12 +1,10 @@
 pub mod Accepts
 pub mod Bodies
-pub mod Cells
 pub mod Cuts
 pub mod Digits
 pub mod Loads
 pub mod Numerals
 pub mod Orders
-pub mod Places
 pub mod Prefixes
 pub mod Rows
 pub mod Table

@@ -1,18 +1,16 @@
 -- The columns' names, each once, in any order. Assumes nothing.
-use Rattle.std.proofs.Common.{◌≡◌, ℕ, suc, Bool, true, false, cond, ◌||◌, ◌⊎◌, List, [], ◌∷◌, ◌++◌, length, Some, None, sym, refl, ap, subst, inl, inr, arith, length-append}
-use Rattle.std.specs.Option.{option_map}
+use Rattle.std.proofs.Common.{◌≡◌, ℕ, ◌+◌, Bool, true, false, cond, ◌||◌, ◌⊎◌, List, [], ◌∷◌, ◌++◌, length, Option, Some, None, sym, refl, ap, ◌∙◌, subst, inl, inr, arith, length-append}
 use Rattle.std.specs.List.Sorted.{IsPermutation}
-use Rattle.std.specs.List.{AllByRecursion}
+use Rattle.std.specs.List.{list_all, position_from, AllByRecursion}
+use Rattle.std.proofs.lemmas.Iterator.Adapters.{position_from-zero}
 use Rattle.std.specs.Str.{bytes_eq}
 use Rattle.std.proofs.lemmas.Slice.Eq.{bytes_eq-Decides}
 use Rattle.std.proofs.lemmas.List.Sorted.{IsPermutation-refl, IsPermutation-sym, IsPermutation-cons, IsPermutation-swap, IsPermutation-trans, length_permutation}
 use Rattle.std.proofs.ByRecursion.{all_shuffled, All-weaker}
-use Rattle.std.proofs.lemmas.Bool.{and_parts, and_from}
+use Rattle.std.proofs.lemmas.Bool.{and_parts, and_from, eq-eqb, eqb-true}
 use Rattle.reader.specs.Layouts.{Entry}
-use Rattle.reader.specs.Names.{among, covers, is_order, chosen, place}
-use Rattle.reader.specs.Pieces.{pieces}
+use Rattle.reader.specs.Names.{among, is_order, chosen, place}
 use Rattle.reader.proofs.Digits.{or_right}
-use Rattle.reader.proofs.Rows.{same_length_lem, as_long}
 
 abbrev pub Among : List ℕ → List (List ℕ) → Type 0
 Among q [] = ⊥
@@ -41,7 +39,7 @@ among_way q n ns true e h later = inl ((bytes_eq-Decides n q).0 e)
 among_way q n ns false e h later = inr (later h)
 
 among_true : (q : List ℕ) (ns : List (List ℕ)) → among q ns ≡ true → Among q ns
-among_true q [] h = let z : ◌≡◌ {A = ℕ} 0 1 = cc in omega arith
+among_true q [] h = cc
 among_true q (n ∷ ns) h = among_way q n ns (bytes_eq n q) refl h (among_true q ns)
 
 true_among : (q : List ℕ) (ns : List (List ℕ)) → Among q ns → among q ns ≡ true
@@ -49,17 +47,17 @@ true_among q [] h = absurd h
 true_among q (n ∷ ns) (inl e) = rw ((bytes_eq-Decides n q).1 e)
 true_among q (n ∷ ns) (inr h) = or_right (bytes_eq n q) (among q ns) (true_among q ns h)
 
-covers_all : (qs ns : List (List ℕ)) → AllByRecursion (λ q. Among q ns) qs → covers qs ns ≡ true
+covers_all : (qs ns : List (List ℕ)) → AllByRecursion (λ q. Among q ns) qs → list_all (λ q. among q ns) qs ≡ true
 covers_all [] ns h = refl
 covers_all (q ∷ qs) ns h = and_from _ _ (true_among q ns h.0) (covers_all qs ns h.1)
 
-pub all_covered : (qs ns : List (List ℕ)) → covers qs ns ≡ true → AllByRecursion (λ q. Among q ns) qs
+pub all_covered : (qs ns : List (List ℕ)) → list_all (λ q. among q ns) qs ≡ true → AllByRecursion (λ q. Among q ns) qs
 all_covered [] ns h = tt
 all_covered (q ∷ qs) ns h = let parts = and_parts _ _ h in (among_true q ns parts.0, all_covered qs ns parts.1)
 
 -- from an order of the columns to the test
 pub order_is : (cs ns : List (List ℕ)) → IsPermutation cs ns → is_order cs ns ≡ true
-order_is cs ns h = and_from _ _ (same_length_lem ns cs (length_permutation cs ns h)) (covers_all cs ns (all_shuffled (λ q. Among q ns) ns cs (IsPermutation-sym cs ns h) (all_self ns)))
+order_is cs ns h = and_from _ _ (eq-eqb (length ns) (length cs) (length_permutation cs ns h)) (covers_all cs ns (all_shuffled (λ q. Among q ns) ns cs (IsPermutation-sym cs ns h) (all_self ns)))
 
 -- and back: as many names as there are columns, among which are all of the columns
 split : (h : List ℕ) (ns : List (List ℕ)) → Among h ns → (us : List (List ℕ)) × ((vs : List (List ℕ)) × (ns ≡ us ++ (h ∷ vs)))
@@ -103,36 +101,39 @@ pigeon (h ∷ hs) ns d a e =
     (IsPermutation-trans _ (h ∷ (us ++ vs)) _ (IsPermutation-cons h hs (us ++ vs) found.0) (to_middle h us vs), distinct_insert h us vs (all_shuffled (λ n. n ≡ h → ⊥) hs (us ++ vs) found.0 d.0) found.1)
 
 pub order_from : (cs ns : List (List ℕ)) → Distinct cs → is_order cs ns ≡ true → IsPermutation cs ns × Distinct ns
-order_from cs ns d h = let parts = and_parts _ _ h in pigeon cs ns d (all_covered cs ns parts.1) (as_long ns cs parts.0)
+order_from cs ns d h = let parts = and_parts _ _ h in pigeon cs ns d (all_covered cs ns parts.1) (eqb-true (length ns) (length cs) parts.0)
 
 pub order_long : (cs ns : List (List ℕ)) → is_order cs ns ≡ true → length ns ≡ length cs
-order_long cs ns h = as_long ns cs (and_parts _ _ h).0
+order_long cs ns h = eqb-true (length ns) (length cs) (and_parts _ _ h).0
 
 pub order_covers : (cs ns : List (List ℕ)) → is_order cs ns ≡ true → (q : List ℕ) → Among q cs → Among q ns
 order_covers cs ns h q a = all_at (λ n. Among n ns) q cs (all_covered cs ns (and_parts _ _ h).1) a
 
 -- a name that is there has a place
-place_there : (q n : List ℕ) (ns : List (List ℕ)) (t : Bool) → (p : ℕ) × (place q ns ≡ Some p) → (p : ℕ) × (cond t (Some 0) (option_map suc (place q ns)) ≡ Some p)
-place_there q n ns true h = (0, refl)
-place_there q n ns false h = (suc h.0, ap (option_map suc) h.1)
+place_from : (q : List ℕ) (i : ℕ) (ns : List (List ℕ)) → Among q ns → (p : ℕ) × (position_from (λ n. bytes_eq n q) i ns ≡ Some p)
+place_from q i [] h = absurd h
+place_from q i (n ∷ ns) (inl e) = (i, rw ((bytes_eq-Decides n q).1 e))
+place_from q i (n ∷ ns) (inr h) = place_there (bytes_eq n q) (place_from q (i + 1) ns h)
+  where
+    place_there : {o : Option ℕ} (t : Bool) → (p : ℕ) × (o ≡ Some p) → (p : ℕ) × (cond t (Some i) o ≡ Some p)
+    place_there true later = (i, refl)
+    place_there false later = later
 
 pub place_among : (q : List ℕ) (ns : List (List ℕ)) → Among q ns → (p : ℕ) × (place q ns ≡ Some p)
-place_among q [] h = absurd h
-place_among q (n ∷ ns) (inl e) = (0, rw ((bytes_eq-Decides n q).1 e))
-place_among q (n ∷ ns) (inr h) = place_there q n ns (bytes_eq n q) (place_among q ns h)
+place_among q ns h = let found = place_from q 0 ns h in (found.0, position_from-zero (λ n. bytes_eq n q) ns ∙ found.1)
 
 -- an entry that was chosen is one of the table's, and its columns are those that the line names
-chosen_way : (P : Entry → Type 0) (e f : Entry) (es : List Entry) (ns : List (List ℕ)) (t : Bool) → is_order (pieces 44 e.columns) ns ≡ t → P e
-    → cond t (Some e) (chosen es ns) ≡ Some f → (chosen es ns ≡ Some f → P f × (is_order (pieces 44 f.columns) ns ≡ true)) → P f × (is_order (pieces 44 f.columns) ns ≡ true)
-chosen_way P e f es ns true is p h later = let same : e ≡ f = some_same e f h in subst (λ x. P x × (is_order (pieces 44 x.columns) ns ≡ true)) same (p, is)
+chosen_way : (P : Entry → Type 0) (e f : Entry) (es : List Entry) (ns : List (List ℕ)) (t : Bool) → is_order e.columns ns ≡ t → P e
+    → cond t (Some e) (chosen es ns) ≡ Some f → (chosen es ns ≡ Some f → P f × (is_order f.columns ns ≡ true)) → P f × (is_order f.columns ns ≡ true)
+chosen_way P e f es ns true is p h later = let same : e ≡ f = some_same e f h in subst (λ x. P x × (is_order x.columns ns ≡ true)) same (p, is)
   where
     some_same : (x y : Entry) → Some x ≡ Some y → x ≡ y
     some_same x y s = cc
 chosen_way P e f es ns false is p h later = later h
 
-pub chosen_from : (P : Entry → Type 0) (es : List Entry) (ns : List (List ℕ)) (f : Entry) → AllByRecursion P es → chosen es ns ≡ Some f → P f × (is_order (pieces 44 f.columns) ns ≡ true)
+pub chosen_from : (P : Entry → Type 0) (es : List Entry) (ns : List (List ℕ)) (f : Entry) → AllByRecursion P es → chosen es ns ≡ Some f → P f × (is_order f.columns ns ≡ true)
 chosen_from P [] ns f a h = absurd (none_some f h)
   where
     none_some : (x : Entry) → None ≡ Some x → ⊥
-    none_some x s = let z : ◌≡◌ {A = ℕ} 0 1 = cc in omega arith
-chosen_from P (e ∷ es) ns f a h = chosen_way P e f es ns (is_order (pieces 44 e.columns) ns) refl a.0 h (chosen_from P es ns f a.1)
+    none_some x s = cc
+chosen_from P (e ∷ es) ns f a h = chosen_way P e f es ns (is_order e.columns ns) refl a.0 h (chosen_from P es ns f a.1)

@@ -7,8 +7,9 @@ use Rattle.reader.specs.declared.faults.FileFault.TheVariants.{NoBytes, TooLong,
 use Rattle.reader.specs.Format.{Scan, body, headed, file, scan, record_of, value_line, end_line, is_end, closes, none, stop, after, complete}
 use Rattle.reader.specs.Layouts.{Entry, layouts}
 use Rattle.reader.specs.Names.{chosen}
-use Rattle.reader.specs.Pieces.{pieces, longer}
+use Rattle.reader.specs.Pieces.{pieces}
 use Rattle.reader.proofs.Bodies.{SomePiece, some_piece, none_left}
+use Rattle.std.specs.List.{onto_first}
 use Rattle.std.proofs.lemmas.Bool.{ne_eqb}
 
 -- the pieces of two lists joined: the last of the first and the first of the second make one
@@ -21,19 +22,19 @@ glue (p ∷ r ∷ ps) qs = p ∷ glue (r ∷ ps) qs
 glue_more : (p : List ℕ) (ps qs : List (List ℕ)) → SomePiece ps → glue (p ∷ ps) qs ≡ p ∷ glue ps qs
 glue_more p ps qs some = subst (λ l. glue (p ∷ l) qs ≡ p ∷ glue l qs) (sym some.1.1) refl
 
-glue_longer : (b : ℕ) (ps qs : List (List ℕ)) → longer b (glue ps qs) ≡ glue (longer b ps) qs
-glue_longer b [] [] = refl
-glue_longer b [] (q ∷ qs) = refl
-glue_longer b (p ∷ []) [] = refl
-glue_longer b (p ∷ []) (q ∷ qs) = refl
-glue_longer b (p ∷ r ∷ ps) qs = refl
+glue_first : (b : ℕ) (ps qs : List (List ℕ)) → onto_first b (glue ps qs) ≡ glue (onto_first b ps) qs
+glue_first b [] [] = refl
+glue_first b [] (q ∷ qs) = refl
+glue_first b (p ∷ []) [] = refl
+glue_first b (p ∷ []) (q ∷ qs) = refl
+glue_first b (p ∷ r ∷ ps) qs = refl
 
 pub pieces_append : (s : ℕ) (xs ys : List ℕ) → pieces s (xs ++ ys) ≡ glue (pieces s xs) (pieces s ys)
 pieces_append s [] ys = let some = some_piece s ys in subst (λ l. l ≡ glue ([] ∷ []) l) (sym some.1.1) refl
 pieces_append s (b ∷ xs) ys =
-    elim (eqb b s) as (λ t. cond t ([] ∷ pieces s (xs ++ ys)) (longer b (pieces s (xs ++ ys))) ≡ glue (cond t ([] ∷ pieces s xs) (longer b (pieces s xs))) (pieces s ys)) [
+    elim (eqb b s) as (λ t. cond t ([] ∷ pieces s (xs ++ ys)) (onto_first b (pieces s (xs ++ ys))) ≡ glue (cond t ([] ∷ pieces s xs) (onto_first b (pieces s xs))) (pieces s ys)) [
       | true ↦ ap (λ l. [] ∷ l) (pieces_append s xs ys) ∙ sym (glue_more [] (pieces s xs) (pieces s ys) (some_piece s xs))
-      | false ↦ ap (longer b) (pieces_append s xs ys) ∙ glue_longer b (pieces s xs) (pieces s ys)
+      | false ↦ ap (onto_first b) (pieces_append s xs ys) ∙ glue_first b (pieces s xs) (pieces s ys)
     ]
 
 glue_some : (p : List ℕ) (ps qs : List (List ℕ)) → SomePiece (glue (p ∷ ps) qs)
@@ -42,7 +43,7 @@ glue_some p [] (q ∷ qs) = (p ++ q, (qs, refl))
 glue_some p (r ∷ ps) qs = (p, (glue (r ∷ ps) qs, refl))
 
 pub some_none : {X : Type 0} (x : X) → Some x ≡ None → ⊥
-some_none x e = let z : ◌≡◌ {A = ℕ} 0 1 = cc in omega arith
+some_none x e = cc
 
 -- a way that a complete scan cannot have gone
 pub cond_complete : (t : Bool) (A : Scan) (f : FileFault) (l : ℕ) → (cond t A (stop f l)).ending ≡ None → (t ≡ true) × (A.ending ≡ None)
@@ -68,8 +69,8 @@ either_way false A B C D x y f g = g x y
 -- what is glued to no byte is itself
 glue_none : (p : List ℕ) (ps qs : List (List ℕ)) → none (p ∷ ps) ≡ true → SomePiece qs → glue (p ∷ ps) qs ≡ qs
 glue_none [] [] qs h some = subst (λ l. glue ([] ∷ []) l ≡ l) (sym some.1.1) refl
-glue_none (b ∷ p) [] qs h some = absurd (let z : ◌≡◌ {A = ℕ} 0 1 = cc in omega arith)
-glue_none p (r ∷ ps) qs h some = absurd (let z : ◌≡◌ {A = ℕ} 0 1 = cc in omega arith)
+glue_none (b ∷ p) [] qs h some = absurd cc
+glue_none p (r ∷ ps) qs h some = absurd cc
 
 ends_once : (k : Kind) (e : Entry) (ns : List (List ℕ)) (l : ℕ) (ps qs : List (List ℕ)) → SomePiece qs → none qs ≡ false → (body k e ns l ps).ending ≡ None → (body k e ns l (glue ps qs)).ending ≡ None → ⊥
 ends_once k e ns l [] qs some n h more = some_none _ h
@@ -79,7 +80,7 @@ ends_once k e ns l (p ∷ q ∷ ps) qs some n h more =
     (λ x y.
     let whole = glue_none q ps qs (end_complete (l + 1) p (q ∷ ps) x).1 some in
     let both : true ≡ false = sym (end_complete (l + 1) p (glue (q ∷ ps) qs) y).1 ∙ ap none whole ∙ n in
-    let z : ◌≡◌ {A = ℕ} 0 1 = cc in omega arith)
+    cc)
     (λ x y. ends_once k e ns (l + 1) (q ∷ ps) qs some n (value_complete _ _ _ x).1.1 (value_complete _ _ _ y).1.1)
 
 pub headed_complete : (k : Kind) (o : Option Entry) (ns ps : List (List ℕ)) → (headed k o ns ps).ending ≡ None → (e : Entry) × ((o ≡ Some e) × ((body k e ns 1 ps).ending ≡ None))

@@ -1,6 +1,6 @@
 -- A file as it is written is read as it was meant. Assumes nothing.
 use Rattle.std.proofs.Common.{◌≡◌, ℕ, zero, suc, ◌+◌, ◌<◌, ◌≤◌, Bool, true, false, cond, List, [], ◌∷◌, ◌++◌, length, get_or, take, drop, ℤ, pos, negsuc, nat_abs, Some, None, codes, decimal, Option, sym, refl, ap, ◌∙◌, subst, append_assoc, append-nil, arith, lit<, length-append, length-drop, take-append-drop}
-use Rattle.std.specs.List.{flat_map, AllByRecursion}
+use Rattle.std.specs.List.{flat_map, join_with_byte, onto_first, AllByRecursion}
 use Rattle.std.specs.Char.{is_ascii_digit}
 use Rattle.std.specs.Fmt.{signed_decimal}
 use Rattle.std.specs.Str.{all_ascii_digits, bytes_eq}
@@ -14,27 +14,26 @@ use Rattle.reader.specs.declared.records.Side.TheVariants.{Start, End}
 use Rattle.reader.specs.declared.records.Record.{Record}
 use Rattle.reader.specs.declared.records.Record.TheVariants.{Arc, Delay, Bound, Pair}
 use Rattle.reader.specs.declared.faults.FileFault.TheVariants.{NoBytes, TooLong}
-use Rattle.reader.specs.Fields.{letter_side}
-use Rattle.reader.specs.Files.{join_by, line_of, letter_of, texts, kind_of, numbers_of, Fitting, Line, Lines, Good}
+use Rattle.reader.specs.Files.{line_of, letter_of, texts, kind_of, numbers_of, Fitting, Line, Lines, Good}
 use Rattle.reader.specs.Format.{both, three, number_in, side_in, record_from, record_of, text_of, first_is_end, closes, count_is, body, headed, file, scan, refused}
 use Rattle.reader.specs.Layouts.{Entry, layouts, arity}
 use Rattle.reader.specs.Names.{chosen, lookup}
-use Rattle.reader.specs.Pieces.{pieces, longer}
-use Rattle.reader.proofs.Bodies.{some_piece, on_names, on_value, on_end}
+use Rattle.reader.specs.Records.{letter_side}
+use Rattle.reader.specs.Pieces.{pieces}
+use Rattle.reader.proofs.Bodies.{on_names, on_value, on_end}
 use Rattle.reader.proofs.Digits.{all_digits, digit_within, number_signed}
 use Rattle.reader.proofs.Orders.{Distinct, both_all, order_is, order_from}
 use Rattle.reader.proofs.Prefixes.{followed}
-use Rattle.reader.proofs.Rows.{same_length_lem}
 use Rattle.reader.proofs.Table.{Plain, Sound, value_name, table, one_of_all, choice}
 
 -- ---- a text with no s in it, before an s and alone
 cut_after : (s : ℕ) (p rest : List ℕ) → AllByRecursion (λ b. b ≡ s → ⊥) p → pieces s (p ++ (s ∷ rest)) ≡ p ∷ pieces s rest
 cut_after s [] rest h = rw (eq-eqb s s refl)
-cut_after s (b ∷ p) rest h = rw (ne_eqb b s h.0) (ap (longer b) (cut_after s p rest h.1))
+cut_after s (b ∷ p) rest h = rw (ne_eqb b s h.0) (ap (onto_first b) (cut_after s p rest h.1))
 
 uncut : (s : ℕ) (p : List ℕ) → AllByRecursion (λ b. b ≡ s → ⊥) p → pieces s p ≡ p ∷ []
 uncut s [] h = refl
-uncut s (b ∷ p) h = rw (ne_eqb b s h.0) (ap (longer b) (uncut s p h.1))
+uncut s (b ∷ p) h = rw (ne_eqb b s h.0) (ap (onto_first b) (uncut s p h.1))
 
 no_comma : (p : List ℕ) → Plain p → AllByRecursion (λ b. b ≡ 44 → ⊥) p
 no_comma p h = All-weaker _ _ (λ b x. x.0) p h
@@ -43,17 +42,17 @@ no_newline : (p : List ℕ) → Plain p → AllByRecursion (λ b. b ≡ 10 → �
 no_newline p h = All-weaker _ _ (λ b x. x.1) p h
 
 -- the fields of a line, back
-fields_back : (f : List ℕ) (fs : List (List ℕ)) → AllByRecursion Plain (f ∷ fs) → pieces 44 (join_by 44 (f ∷ fs)) ≡ f ∷ fs
+fields_back : (f : List ℕ) (fs : List (List ℕ)) → AllByRecursion Plain (f ∷ fs) → pieces 44 (join_with_byte 44 (f ∷ fs)) ≡ f ∷ fs
 fields_back f [] h = uncut 44 f (no_comma f h.0)
-fields_back f (g ∷ fs) h = cut_after 44 f (join_by 44 (g ∷ fs)) (no_comma f h.0) ∙ ap (λ l. f ∷ l) (fields_back g fs h.1)
+fields_back f (g ∷ fs) h = cut_after 44 f (join_with_byte 44 (g ∷ fs)) (no_comma f h.0) ∙ ap (λ l. f ∷ l) (fields_back g fs h.1)
 
-one_line : (fs : List (List ℕ)) → AllByRecursion Plain fs → AllByRecursion (λ b. b ≡ 10 → ⊥) (join_by 44 fs)
+one_line : (fs : List (List ℕ)) → AllByRecursion Plain fs → AllByRecursion (λ b. b ≡ 10 → ⊥) (join_with_byte 44 fs)
 one_line [] h = tt
 one_line (f ∷ []) h = no_newline f h.0
-one_line (f ∷ g ∷ fs) h = All-append _ f (44 ∷ join_by 44 (g ∷ fs)) (no_newline f h.0) (λ e. omega arith, one_line (g ∷ fs) h.1)
+one_line (f ∷ g ∷ fs) h = All-append _ f (44 ∷ join_with_byte 44 (g ∷ fs)) (no_newline f h.0) (λ e. omega arith, one_line (g ∷ fs) h.1)
 
-line_cut : (fs : List (List ℕ)) (rest : List ℕ) → AllByRecursion Plain fs → pieces 10 (line_of fs ++ rest) ≡ join_by 44 fs ∷ pieces 10 rest
-line_cut fs rest h = ap (pieces 10) (append_assoc (join_by 44 fs) (10 ∷ []) rest) ∙ cut_after 10 (join_by 44 fs) rest (one_line fs h)
+line_cut : (fs : List (List ℕ)) (rest : List ℕ) → AllByRecursion Plain fs → pieces 10 (line_of fs ++ rest) ≡ join_with_byte 44 fs ∷ pieces 10 rest
+line_cut fs rest h = ap (pieces 10) (append_assoc (join_with_byte 44 fs) (10 ∷ []) rest) ∙ cut_after 10 (join_with_byte 44 fs) rest (one_line fs h)
 
 -- ---- what the text of a value is like: plain, and not `end`
 abbrev Valued : List ℕ → Type 0
@@ -105,7 +104,7 @@ under_tail q n f ns fs y ne false e h = h
 
 under_head : (n f : List ℕ) (o : Option (List ℕ)) (y : List ℕ) (t : Bool) → bytes_eq n n ≡ t → cond t (Some f) o ≡ Some y → y ≡ f
 under_head n f o y true e h = cc
-under_head n f o y false e h = absurd (let u = (bytes_eq-Decides n n).1 refl in let z : ◌≡◌ {A = ℕ} 0 1 = cc in omega arith)
+under_head n f o y false e h = absurd (let u = (bytes_eq-Decides n n).1 refl in cc)
 
 -- a text with P stands under the name
 abbrev Under : (List ℕ → Type 0) → List (List ℕ) → List (List ℕ) → List ℕ → Type 0
@@ -162,7 +161,7 @@ record_told (Pair s a b) text h v =
     λ j. three Pair (p j) (q j) (t j)
 
 record_back : (k : Kind) (e : Entry) (ns fs : List (List ℕ)) (r : Record) → Fitting k r → Line e ns r fs → record_of k e ns fs ≡ Some r
-record_back k e ns fs r fit line = rw (same_length_lem ns fs line.wide) (subst (λ m. record_from m (text_of e ns fs) ≡ Some r) fit.kind (record_told r (text_of e ns fs) fit.numbers line.values))
+record_back k e ns fs r fit line = rw (eq-eqb (length ns) (length fs) line.wide) (subst (λ m. record_from m (text_of e ns fs) ≡ Some r) fit.kind (record_told r (text_of e ns fs) fit.numbers line.values))
 
 -- ---- the lines, back
 abbrev end_line_of : ℕ → List ℕ
@@ -180,13 +179,13 @@ module _ (k : Kind) (e : Entry) (n : List ℕ) (ns : List (List ℕ)) (sound : S
       let valued = line_valued k e (n ∷ ns) sound distinct onto r (f ∷ fs) fit line in
       let plain = All-weaker Valued Plain (λ t x. x.0) (f ∷ fs) valued in
       let back = fields_back f fs plain in
-      on_value k e (n ∷ ns) l (l + 1) (line_of (f ∷ fs) ++ rest) (join_by 44 (f ∷ fs)) rest (line_cut (f ∷ fs) rest plain) refl r
+      on_value k e (n ∷ ns) l (l + 1) (line_of (f ∷ fs) ++ rest) (join_with_byte 44 (f ∷ fs)) rest (line_cut (f ∷ fs) rest plain) refl r
       (sym (ap first_is_end back ∙ valued.0.1)) (ap (record_of k e (n ∷ ns)) back ∙ record_back k e (n ∷ ns) (f ∷ fs) r fit line)
 
   body_back : (rs : List Record) (fss : List (List (List ℕ))) (l count : ℕ) → AllByRecursion (Fitting k) rs → Lines e (n ∷ ns) rs fss → count < 10000000 → count + 1 ≡ l + length rs
       → body k e (n ∷ ns) l (pieces 10 (flat_map line_of fss ++ end_line_of count)) ≡ record { records = rs; ending = None }
   body_back [] [] l count h lines small c =
-      let p = join_by 44 (codes "end" ∷ decimal count ∷ []) in
+      let p = join_with_byte 44 (codes "end" ∷ decimal count ∷ []) in
       let plain = end_plain count small in
       let fields = fields_back (codes "end") (decimal count ∷ []) plain in
       on_end k e (n ∷ ns) l (l + 1) (end_line_of count) p [] (ap (pieces 10) (sym (append-nil (end_line_of count))) ∙ line_cut (codes "end" ∷ decimal count ∷ []) [] plain) refl
@@ -214,10 +213,10 @@ as_many e ns (r ∷ rs) (fs ∷ fss) h = ap suc (as_many e ns rs fss h.1)
 pub good_accepted : (k : Kind) (rs : List Record) (bs : List ℕ) → Good k rs bs → scan k bs ≡ record { records = rs; ending = None }
 good_accepted k rs bs good =
     let e = good.entry in
-    let cs = pieces 44 e.columns in
+    let cs = e.columns in
     let sound = one_of_all (Sound k) e _ (table k) good.listed in
     accepted good.names (all_shuffled Plain cs good.names good.order sound.plain) (order_from cs good.names sound.distinct (order_is cs good.names good.order)).1 sound
-    (all_shuffled _ cs good.names good.order sound.onto) (omega (arith, length_permutation cs good.names good.order, ap length (some_piece 44 e.columns).1.1)) refl
+    (all_shuffled _ cs good.names good.order sound.onto) (omega (arith, length_permutation cs good.names good.order, sound.some)) refl
   where
     accepted : (ns : List (List ℕ)) → AllByRecursion Plain ns → Distinct ns → Sound k good.entry → AllByRecursion (λ n. (i : ℕ) × ((i < arity k) × (value_name good.entry i ≡ n))) ns → 0 < length ns → ns ≡ good.names → scan k bs ≡ record { records = rs; ending = None }
     accepted [] plain distinct sound onto some is = absurd (omega arith)
@@ -232,7 +231,7 @@ good_accepted k rs bs good =
         let back = fields_back n ns plain in
         rw (ne_eqb (length bs) 0 (λ z. omega (arith, long)), le-ltb 60000 (length bs) good.small)
         (ap (λ l. file k (pieces 10 l)) whole
-        ∙ on_names k (line_of (n ∷ ns) ++ rest) (join_by 44 (n ∷ ns)) rest (line_cut (n ∷ ns) rest plain)
+        ∙ on_names k (line_of (n ∷ ns) ++ rest) (join_with_byte 44 (n ∷ ns)) rest (line_cut (n ∷ ns) rest plain)
         ∙ ap (λ m. headed k (chosen (layouts k) m) m (pieces 10 rest)) back
         ∙ ap (λ o. headed k o (n ∷ ns) (pieces 10 rest)) picked
         ∙ body_back k e n ns sound distinct onto rs good.fields 1 (length rs) good.fitting lines count (omega arith))

@@ -1,6 +1,6 @@
 -- A file as it is written: a line of names, a line for each record, and the end line. Assumes nothing.
 use Rattle.std.specs.Prelude.{◌≡◌, ℕ, ◌<◌, ◌≤◌, ◌⊎◌, List, [], ◌∷◌, ◌++◌, length, take, ℤ, Some, None, codes, decimal, ◌≢◌, slice_index_or, unsigned_abs}
-use Rattle.std.specs.List.{flat_map, AllByRecursion}
+use Rattle.std.specs.List.{flat_map, join_with_byte, AllByRecursion}
 use Rattle.std.specs.List.Sorted.{IsPermutation}
 use Rattle.std.specs.Fmt.{signed_decimal}
 use Rattle.reader.specs.declared.records.Kind.{Kind}
@@ -12,16 +12,10 @@ use Rattle.reader.specs.declared.records.Record.TheVariants.{Arc, Delay, Bound, 
 use Rattle.reader.specs.declared.faults.FileFault.TheVariants.{NoBytes, TooLong}
 use Rattle.reader.specs.Format.{scan, refused, text_of}
 use Rattle.reader.specs.Layouts.{Entry, layouts}
-use Rattle.reader.specs.Pieces.{pieces}
 
--- texts with one byte between them; a line of fields
-abbrev pub join_by : ℕ → List (List ℕ) → List ℕ
-join_by s [] = []
-join_by s (f ∷ []) = f
-join_by s (f ∷ g ∷ fs) = f ++ (s ∷ join_by s (g ∷ fs))
-
+-- a line of fields
 abbrev pub line_of : List (List ℕ) → List ℕ
-line_of fs = join_by 44 fs ++ (10 ∷ [])
+line_of fs = join_with_byte 44 fs ++ (10 ∷ [])
 
 abbrev pub letter_of : Side → List ℕ
 letter_of Start = codes "s"
@@ -72,7 +66,7 @@ pub record Good (k : Kind) (rs : List Record) (bs : List ℕ) : Type 0 where
   pub entry : Entry
   pub listed : OneOf entry (layouts k)
   pub names : List (List ℕ)
-  pub order : IsPermutation (pieces 44 entry.columns) names
+  pub order : IsPermutation entry.columns names
   pub fitting : AllByRecursion (Fitting k) rs
   pub fields : List (List (List ℕ))
   pub lines : Lines entry names rs fields

@@ -9,9 +9,9 @@ use Rattle.reader.specs.declared.records.Record.TheVariants.{Arc, Delay, Bound, 
 use Rattle.reader.specs.declared.faults.FileFault.{FileFault}
 use Rattle.reader.specs.declared.faults.FileFault.TheVariants.{NoBytes, TooLong, NamesUnended, NamesWrong, ValueUnended, ValueWrong, EndMissing, EndUnended, EndWrong, EndFollowed}
 use Rattle.reader.specs.declared.faults.FileRefusal.{FileRefusal}
-use Rattle.reader.specs.Fields.{letter_side}
+use Rattle.reader.specs.Records.{letter_side}
 use Rattle.reader.specs.Layouts.{Entry, layouts}
-use Rattle.reader.specs.Names.{same_length, lookup, chosen}
+use Rattle.reader.specs.Names.{lookup, chosen}
 use Rattle.reader.specs.Numbers.{number}
 use Rattle.reader.specs.Pieces.{pieces}
 
@@ -44,10 +44,10 @@ record_from FalseSets text = three Pair (number_in (text 0)) (number_in (text 1)
 
 -- the text of value i, where ns are the names and fs the fields
 abbrev pub text_of : Entry → List (List ℕ) → List (List ℕ) → ℕ → Option (List ℕ)
-text_of e ns fs i = lookup (slice_index_or (pieces 44 e.values) i []) ns fs
+text_of e ns fs i = lookup (slice_index_or e.values i []) ns fs
 
 abbrev pub record_of : Kind → Entry → List (List ℕ) → List (List ℕ) → Option Record
-record_of k e ns fs = cond (same_length ns fs) (record_from k (text_of e ns fs)) None
+record_of k e ns fs = cond (length ns == length fs) (record_from k (text_of e ns fs)) None
 
 -- ---- what a file says
 pub record Scan : Type 0 where

@@ -2,7 +2,6 @@ pub mod Records
 pub mod Pieces
 pub mod Numbers
 pub mod Fields
-pub mod Lines
 pub mod Layouts
 pub mod Names
 pub mod Faults
@@ -10,5 +9,4 @@ pub mod Format
 pub mod Reading
 pub mod Loading
 pub mod Listing
-pub mod Values
 pub mod Files

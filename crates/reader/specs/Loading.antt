@@ -15,6 +15,11 @@ abbrev pub Answers : {M E : Type 0} → Result M E → M → Result (Unit {0}) E
 Answers (Ok n) q r t = (r ≡ Ok tt) × (t ≡ n)
 Answers (Err e) q r t = (r ≡ Err e) × (t ≡ q)
 
+-- an answer with its refusal as a number
+abbrev pub numbered : {A E : Type 0} → (E → ℕ) → Result A E → Result A ℕ
+numbered number (Ok a) = Ok a
+numbered number (Err e) = Err (number e)
+
 module _ {M : Type 0} (step : M → Record → Result M ℕ) where
   -- the state after the records, of which the first stands in line l; the first refusal is the answer, and else the file's own
   abbrev pub replay : List Record → Option FileRefusal → ℕ → M → Result M FileRefusal

@@ -2,9 +2,11 @@
 ghost use Rattle.std.specs.Prelude.{◌≡◌};
 ghost use Rattle.reader.specs.Faults.{number_of};
 
+use std::error::Error;
 use std::fmt;
 
-// What is wrong with a file. A call that turns a record down has a number of its own.
+// What is wrong with a file. A call that turns a record down has a number of its own, and is kept by that number: each
+// sink has a type of its own for what it says, and a file's refusal can hold any.
 #[derive(Clone, Copy, Debug, PartialEq, Eq)]
 pub enum FileFault {
     NoBytes,
@@ -30,17 +32,19 @@ impl FileFault {
             FileFault::TooLong => 2,
             FileFault::NamesUnended | FileFault::NamesWrong => 3,
             FileFault::ValueUnended | FileFault::ValueWrong => 4,
-            FileFault::EndMissing => 5,
-            FileFault::EndUnended => 5,
-            FileFault::EndWrong => 5,
-            FileFault::EndFollowed => 5,
+            FileFault::EndMissing
+            | FileFault::EndUnended
+            | FileFault::EndWrong
+            | FileFault::EndFollowed => 5,
             FileFault::Call(number) => number,
         }
     }
+}
 
-    // The fault in words. Whoever takes the records may use any number of the table of refusals.
-    fn words(&self) -> &'static str {
-        match *self {
+// Whoever takes the records may use any number of the table of refusals.
+impl fmt::Display for FileFault {
+    fn fmt<W: fmt::Write>(&self, f: &mut fmt::Formatter<W>) -> fmt::Result {
+        f.write_str(match *self {
             FileFault::NoBytes => "the file has no bytes",
             FileFault::TooLong => "the file has more than 60000 bytes",
             FileFault::NamesUnended => "the names line has no line feed at its end",
@@ -59,9 +63,11 @@ impl FileFault {
             FileFault::Call(11) => "no live path leads from the one node to the other",
             FileFault::Call(14) => "a table has the wrong length",
             FileFault::Call(_) => "the record was turned down",
-        }
+        })
     }
 }
+
+impl Error for FileFault {}
 
 // A fault, and the line that has it; line 0 stands for the whole file.
 #[derive(Clone, Copy, Debug, PartialEq, Eq)]
@@ -73,8 +79,9 @@ pub struct FileRefusal {
 impl fmt::Display for FileRefusal {
     fn fmt<W: fmt::Write>(&self, f: &mut fmt::Formatter<W>) -> fmt::Result {
         let number = self.fault.number();
-        let line = self.line;
-        let words = self.fault.words();
-        write!(f, "number {number} at line {line}: {words}")
+        let FileRefusal { fault, line } = *self;
+        write!(f, "number {number} at line {line}: {fault}")
     }
 }
+
+impl Error for FileRefusal {}

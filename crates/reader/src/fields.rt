@@ -1,160 +1,126 @@
-// A line's fields, each told by its form as a name, a number or a letter.
-ghost use Rattle.std.specs.Prelude.{◌≡◌, ℕ, ◌<◌, ◌≤◌, List, [], ◌∷◌, map, length, take, MatchOption};
-ghost use Rattle.std.specs.Str.{bytes_eq};
+// A line of a file, and its fields one by one.
+ghost use Rattle.std.specs.Prelude.{◌≡◌, ◌≢◌, ◌≤◌, map, length, take, MatchOption, Some};
+ghost use Rattle.std.specs.Iterator.{YieldsFirstRef, item_count};
 ghost use Rattle.reader.specs.Pieces.{pieces, fields_in};
-ghost use Rattle.reader.specs.Fields.{Told, cell_of, cell_number, cell_side, side_of};
+ghost use Rattle.reader.specs.Format.{is_end, closes, count_is};
+ghost use Rattle.reader.specs.Names.{among, place};
 
-use crate::lines::before;
+use crate::lines::cut;
 use crate::numbers::read_number;
-use crate::records::Side;
 
 const COMMA: u8 = 44;
 
 // A value line has at most so many fields.
 pub(crate) const MOST: usize = 3;
 
-// A field, as a part of the file.
+// A line without its byte 10, or what stands after the last byte 10.
 #[derive(Clone, Copy)]
-pub(crate) enum Field<'a> {
-    Name(&'a [u8]),
-    Number { text: &'a [u8], value: i32 },
-    Letter(char),
+pub(crate) struct Line<'a> {
+    pub(crate) text: &'a [u8],
+    ghost short: { length text.now ≤ 60000 },
 }
 
-// A number, else one byte as a letter, else a name.
-fn tell<'a>(part: &'a [u8]) -> Field<'a>
-    ensures { Told part.now result }
+// The first fields of a line, in order.
+#[derive(Clone, Copy)]
+pub(crate) struct Row<'a> {
+    pub(crate) fields: [&'a [u8]; MOST],
+}
+
+impl<'a> Line<'a> {
+    fn fields(self) -> Fields<'a>
+        ensures { fields_in result.rest ≡ pieces 44 self.entry.text.now }
+    {
+        Fields {
+            rest: Some(self.text),
+        }
+    }
+
+    // How many fields there are.
+    pub(crate) fn width(self) -> usize
+        ensures { result ≡ length (pieces 44 self.entry.text.now) }
+    {
+        self.fields().count()
+    }
+
+    // Whether a name is one of the fields.
+    pub(crate) fn has(self, name: &str) -> bool
+        ensures { result ≡ among name.now (pieces 44 self.entry.text.now) }
+    {
+        self.fields().any(|field| field == name.as_bytes())
+    }
+
+    // The place of a name among the fields.
+    pub(crate) fn place(self, name: &str) -> Option<usize>
+        ensures { result ≡ place name.now (pieces 44 self.entry.text.now) }
+    {
+        self.fields().position(|field| field == name.as_bytes())
+    }
+
+    // The fields, where there are just so many.
+    pub(crate) fn row(self, width: usize) -> Option<Row<'a>>
+        requires { width ≤ 3 }
+        ensures { MatchOption result
+            (length (pieces 44 self.entry.text.now) ≢ width)
+            (λ row. (length (pieces 44 self.entry.text.now) ≡ width) × (map (λ f. f.now) (take width row.fields) ≡ pieces 44 self.entry.text.now)) }
+    {
+        let mut rest = self.fields();
+        let mut fields: [&[u8]; MOST] = [&[]; MOST];
+        // a proof knows nothing of what an adapter of `iter_mut` writes
+        for i in 0..width {
+            fields[i] = rest.next()?;
+        }
+        match rest.next() {
+            Some(_) => None,
+            None => Some(Row { fields }),
+        }
+    }
+
+    // Whether the first field is `end`.
+    pub(crate) fn is_end(self) -> bool
+        ensures { result ≡ is_end self.entry.text.now }
+    {
+        matches!(self.fields().next(), Some(b"end"))
+    }
+
+    // Whether the end line, which is line `number`, counts the value lines before it.
+    pub(crate) fn counts(self, number: usize) -> bool
+        ensures { result ≡ closes number (pieces 44 self.entry.text.now) }
+    {
+        let Some(row) = self.row(2) else {
+            return false;
+        };
+        read_number(row.fields[1]).is_some_and(|n| counts_before(n, number))
+    }
+}
+
+// Whether n value lines stand before the end line, which is line `number`.
+fn counts_before(n: i32, number: usize) -> bool
+    ensures { result ≡ count_is number (Some n) }
 {
-    if let Some(value) = read_number(part) {
-        return Field::Number { text: part, value };
-    }
-    match part {
-        [b] => Field::Letter(*b as char),
-        _ => Field::Name(part),
-    }
+    n >= 0 && n as usize + 2 == number
 }
 
 // The fields of a line that are still to come.
 #[derive(Drop)]
-pub(crate) struct Fields<'a> {
+struct Fields<'a> {
     rest: Option<&'a [u8]>,
+    ghost few: { length (fields_in rest) ≤ 60001 },
 }
 
-impl<'a> Fields<'a> {
-    pub(crate) fn of(line: &'a [u8]) -> Fields<'a>
-        ensures { fields_in result.rest ≡ pieces 44 line.now }
-    {
-        Fields { rest: Some(line) }
-    }
+impl<'a> Iterator for Fields<'a> {
+    type Item = &'a [u8];
 
-    pub(crate) fn next_field(&mut self) -> Option<&'a [u8]>
-        ensures { MatchOption result
-            (fields_in self.old.rest ≡ [])
-            (λ f. fields_in self.old.rest ≡ f.now ∷ fields_in self.new.rest) }
-    {
-        let Some(rest) = self.rest else {
-            return None;
-        };
-        let n = before(rest, COMMA);
-        if n == rest.len() {
+    ghost next_gives = { YieldsFirstRef (λ s. fields_in s.rest) };
+
+    ghost remaining = { item_count (λ s. fields_in s.rest) };
+
+    fn next(&mut self) -> Option<&'a [u8]> {
+        let rest = self.rest?;
+        let Some((field, others)) = cut(rest, COMMA) else {
             self.rest = None;
             return Some(rest);
-        }
-        self.rest = Some(&rest[n + 1..]);
-        Some(&rest[0..n])
-    }
-
-    // The next field, told by its form.
-    fn next_told(&mut self) -> Option<Field<'a>>
-        ensures { MatchOption result
-            (fields_in self.old.rest ≡ [])
-            (λ f. (bs : List ℕ) × ((fields_in self.old.rest ≡ bs ∷ fields_in self.new.rest) × Told bs f)) }
-    {
-        match self.next_field() {
-            Some(part) => Some(tell(part)),
-            None => None,
-        }
-    }
-}
-
-// What a field says, without its bytes.
-#[derive(Clone, Copy)]
-pub(crate) enum Cell {
-    Number(i32),
-    Letter(char),
-    Other,
-}
-
-impl Cell {
-    pub(crate) fn number(self) -> Option<i32>
-        ensures { result ≡ cell_number self }
-    {
-        match self {
-            Cell::Number(value) => Some(value),
-            _ => None,
-        }
-    }
-
-    // The side that a letter names.
-    pub(crate) fn side(self) -> Option<Side>
-        ensures { result ≡ cell_side self }
-    {
-        match self {
-            Cell::Letter(c) => read_side(c),
-            _ => None,
-        }
-    }
-}
-
-fn read_side(c: char) -> Option<Side>
-    ensures { result ≡ side_of c }
-{
-    match c {
-        's' => Some(Side::Start),
-        'e' => Some(Side::End),
-        _ => None,
-    }
-}
-
-fn cell_of(field: Field) -> Cell
-    ensures { (bs : List ℕ) → Told bs field.entry → result ≡ cell_of bs }
-{
-    match field {
-        Field::Number { value, .. } => Cell::Number(value),
-        Field::Letter(c) => Cell::Letter(c),
-        Field::Name(_) => Cell::Other,
-    }
-}
-
-// The cells of a line: how many there are, and each of them.
-#[derive(Clone, Copy)]
-pub(crate) struct Row {
-    pub(crate) width: usize,
-    pub(crate) cells: [Cell; 3],
-}
-
-// The cells of a line, unless there are too many.
-pub(crate) fn read_row(line: &[u8]) -> Option<Row>
-    ensures { MatchOption result
-        (3 < length (pieces 44 line.now))
-        (λ row. (row.width ≡ length (pieces 44 line.now)) × (row.width ≤ 3) × (take row.width row.cells ≡ map cell_of (pieces 44 line.now))) }
-{
-    let mut fields = Fields::of(line);
-    let mut cells = [Cell::Other; MOST];
-    for width in 0..MOST {
-        let Some(field) = fields.next_told() else {
-            return Some(Row { width, cells });
         };
-        cells[width] = cell_of(field);
+        self.rest = Some(others);
+        Some(field)
     }
-    match fields.next_field() {
-        Some(_) => None,
-        None => Some(Row { width: MOST, cells }),
-    }
-}
-
-pub(crate) fn same(a: &[u8], b: &[u8]) -> bool
-    ensures { result ≡ bytes_eq a.now b.now }
-{
-    a == b
 }

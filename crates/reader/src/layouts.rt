@@ -1,33 +1,37 @@
 // The table of the formats: which columns a file of each kind may have.
-ghost use Rattle.std.specs.Prelude.{◌≡◌, Some};
-ghost use Rattle.std.specs.Option.{option_map};
-ghost use Rattle.reader.specs.Layouts.{layouts, entry, entry_at};
+ghost use Rattle.std.specs.Prelude.{◌≡◌, map};
+ghost use Rattle.reader.specs.Layouts.{layouts, entry};
 
 use crate::records::Kind;
 
 // A set of columns: the names that the names line has, each once, in any order; and, for each value of the record in
-// the record's order, the column that it is read from. Names are joined by commas.
+// the record's order, the column that it is read from.
 #[derive(Clone, Copy)]
 pub(crate) struct Layout {
-    pub(crate) columns: &'static [u8],
-    pub(crate) values: &'static [u8],
+    pub(crate) columns: &'static [&'static str],
+    pub(crate) values: &'static [&'static str],
 }
 
-fn listed(columns: &'static [u8], values: &'static [u8]) -> Option<Layout>
-    ensures { option_map entry result ≡ Some (record { columns = columns.entry.now; values = values.now }) }
+// The table: the sets of columns that a file of the kind may have.
+pub(crate) fn layouts(kind: Kind) -> &'static [Layout]
+    ensures { map entry result.now ≡ layouts kind }
 {
-    Some(Layout { columns, values })
-}
-
-// The table: the i-th set of columns that a file of the kind may have.
-pub(crate) fn layout_at(kind: Kind, i: usize) -> Option<Layout>
-    ensures { option_map entry result ≡ entry_at (layouts kind) i }
-{
-    match (kind, i) {
-        (Kind::Arcs, 0) => listed(b"from,to", b"from,to"),
-        (Kind::Delays, 0) => listed(b"arc,ticks", b"arc,ticks"),
-        (Kind::Bounds, 0) => listed(b"node,side,ticks", b"node,side,ticks"),
-        (Kind::FalseSets, 0) => listed(b"set,from,to", b"set,from,to"),
-        _ => None,
+    match kind {
+        Kind::Arcs => &[Layout {
+            columns: &["from", "to"],
+            values: &["from", "to"],
+        }],
+        Kind::Delays => &[Layout {
+            columns: &["arc", "ticks"],
+            values: &["arc", "ticks"],
+        }],
+        Kind::Bounds => &[Layout {
+            columns: &["node", "side", "ticks"],
+            values: &["node", "side", "ticks"],
+        }],
+        Kind::FalseSets => &[Layout {
+            columns: &["set", "from", "to"],
+            values: &["set", "from", "to"],
+        }],
     }
 }

@@ -19,4 +19,4 @@ pub use laws::format_laws;
 pub use lines::LIMIT;
 pub use listing::{ListFault, count, list};
 pub use loading::{Sink, load, run};
-pub use records::{Kind, Record, Side};
+pub use records::{Kind, Record, Side, UnknownKind, UnknownSide};

@@ -1,80 +1,55 @@
 // Walks over a file's lines, as parts of the caller's bytes.
-ghost use Rattle.std.specs.Prelude.{◌≡◌, ℕ, ◌+◌, ◌^◌, ◌<◌, ◌≤◌, length, MatchOption, ◌≢◌, slice_index};
-ghost use Rattle.reader.specs.Lines.{Standing, unread};
-ghost use Rattle.reader.specs.Pieces.{Cut, Whole};
+ghost use Rattle.std.specs.Prelude.{◌≡◌, ◌+◌, ◌≤◌, [], ◌∷◌, length, MatchOption};
+ghost use Rattle.reader.specs.Pieces.{pieces};
 
-pub(crate) const NEWLINE: u8 = 10;
+use crate::fields::Line;
+
+const NEWLINE: u8 = 10;
 
 // A file has at most so many bytes.
 pub const LIMIT: usize = 60000;
 
-// How many bytes stand before the first `mark`, or all of them where there is none.
-pub(crate) fn before(s: &[u8], mark: u8) -> usize
-    ensures within { result ≤ length s.now }
-    ensures bound { length s.now < 2 ^ 64 }
-    ensures before { (k : ℕ) → k < result → slice_index s.now k ≢ mark }
-    ensures found { result < length s.now → slice_index s.now result ≡ mark }
+// What stands before the first `mark`, and what stands after it.
+pub(crate) fn cut(text: &[u8], mark: u8) -> Option<(&[u8], &[u8])>
+    ensures { MatchOption result
+        (pieces mark text.now ≡ text.now ∷ [])
+        (λ p. (pieces mark text.now ≡ p.0.now ∷ pieces mark p.1.now) × (length p.0.now + length p.1.now + 1 ≤ length text.now)) }
 {
-    for (i, b) in s.iter().enumerate() {
-        if *b == mark {
-            return i;
-        }
-    }
-    s.len()
+    let n = text.iter().position(|b| *b == mark)?;
+    Some((&text[..n], &text[n + 1..]))
 }
 
-// A file's bytes, the place where its next line begins, and how many lines were handed out.
+// What was not handed out yet of a file, and how many lines were.
 #[derive(Drop)]
 pub(crate) struct Cursor<'a> {
-    bytes: &'a [u8],
-    place: usize,
-    line: usize,
+    pub(crate) rest: &'a [u8],
+    pub(crate) line: usize,
+
+    // Each line that was handed out had a byte 10, and a file is not too long.
+    ghost counted: { line + length rest.now ≤ 60000 },
 }
 
 impl<'a> Cursor<'a> {
     pub(crate) fn new(bytes: &'a [u8]) -> Cursor<'a>
         requires { length bytes.now ≤ 60000 }
-        ensures stands { Standing result }
-        ensures rest { unread result ≡ bytes.now }
+        ensures rest { result.rest.now ≡ bytes.now }
         ensures line { result.line ≡ 0 }
     {
         Cursor {
-            bytes,
-            place: 0,
+            rest: bytes,
             line: 0,
         }
     }
 
-    // How many lines were handed out.
-    pub(crate) fn line(&self) -> usize
-        ensures { result ≡ self.now.line }
+    // The next line; nothing where no byte 10 is left.
+    pub(crate) fn next_line(&mut self) -> Option<Line<'a>>
+        ensures { MatchOption result
+            ((pieces 10 self.old.rest.now ≡ self.old.rest.now ∷ []) × (self.new.rest.now ≡ self.old.rest.now) × (self.new.line ≡ self.old.line))
+            (λ l. (pieces 10 self.old.rest.now ≡ l.text.now ∷ pieces 10 self.new.rest.now) × (self.new.line ≡ self.old.line + 1)) }
     {
-        self.line
-    }
-
-    // What was not handed out yet.
-    pub(crate) fn rest(&self) -> &'a [u8]
-        requires { Standing self.now }
-        ensures { result.now ≡ unread self.now }
-    {
-        &self.bytes[self.place..]
-    }
-
-    // The next line without its byte 10; nothing where no byte 10 is left.
-    pub(crate) fn next_line(&mut self) -> Option<&'a [u8]>
-        requires { Standing self.old }
-        ensures stands { Standing self.new }
-        ensures cases { MatchOption result
-            (Whole 10 (unread self.old) × (unread self.new ≡ unread self.old) × (self.new.line ≡ self.old.line))
-            (λ l. Cut 10 (unread self.old) l.now (unread self.new) × (self.new.line ≡ self.old.line + 1)) }
-    {
-        let rest = self.rest();
-        let n = before(rest, NEWLINE);
-        if n == rest.len() {
-            return None;
-        }
-        self.place += n + 1;
+        let (text, rest) = cut(self.rest, NEWLINE)?;
+        self.rest = rest;
         self.line += 1;
-        Some(&rest[0..n])
+        Some(Line { text })
     }
 }

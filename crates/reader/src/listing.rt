@@ -8,6 +8,8 @@ use crate::faults::FileRefusal;
 use crate::reading::Reader;
 use crate::records::{Kind, Record};
 use std::alloc::{AllocFailed, Global};
+use std::error::Error;
+use std::fmt;
 
 // How many value lines a file has, if it is a good one.
 pub fn count(kind: Kind, bytes: &[u8]) -> Result<usize, FileRefusal>
@@ -15,6 +17,7 @@ pub fn count(kind: Kind, bytes: &[u8]) -> Result<usize, FileRefusal>
 {
     let mut reader = Reader::open(kind, bytes)?;
     let mut lines = 0;
+    // a reader can fail, so that it is no iterator whose items could be counted
     while let Some(_) = reader.next()? {
         lines += 1;
     }
@@ -27,6 +30,17 @@ pub enum ListFault {
     File(FileRefusal),
     Memory,
 }
+
+impl fmt::Display for ListFault {
+    fn fmt<W: fmt::Write>(&self, f: &mut fmt::Formatter<W>) -> fmt::Result {
+        match *self {
+            ListFault::File(fault) => write!(f, "{fault}"),
+            ListFault::Memory => write!(f, "out of memory"),
+        }
+    }
+}
+
+impl Error for ListFault {}
 
 impl From<FileRefusal> for ListFault {
     ghost from_gives = { λ e r. r ≡ File e };

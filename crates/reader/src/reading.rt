@@ -1,28 +1,34 @@
 // Opens a file, and reads its records one by one.
-ghost use Rattle.std.specs.Prelude.{◌≡◌, ◌+◌, ◌≤◌, length, Err, MatchResult};
+ghost use Rattle.std.specs.Prelude.{◌≡◌, ℕ, ◌<◌, ◌≤◌, [], map, length, MatchResult, Some, slice_index, slice_index_or};
 ghost use Rattle.reader.specs.Pieces.{pieces};
-ghost use Rattle.reader.specs.Format.{file, scan, refused, record_of, unended};
-ghost use Rattle.reader.specs.Layouts.{entry};
-ghost use Rattle.reader.specs.Lines.{Standing, unread};
-ghost use Rattle.reader.specs.Reading.{left, Ready, Steps};
+ghost use Rattle.reader.specs.Format.{file, scan, refused};
+ghost use Rattle.reader.specs.Layouts.{arity};
+ghost use Rattle.reader.specs.Names.{place};
 
 use crate::faults::{FileFault, FileRefusal};
-use crate::fields::read_row;
+use crate::fields::{Line, MOST};
 use crate::layouts::Layout;
 use crate::lines::{Cursor, LIMIT};
 use crate::names::{choose, find_places};
 use crate::records::{Kind, Record};
-use crate::values::{counts, is_end, record_in, unended_fault};
+use crate::values::{record_from, unended_fault};
 
 // A file after its names line: its columns, where each value of a record stands among them, and the lines to come.
 #[derive(Drop)]
 pub(crate) struct Reader<'a> {
     kind: Kind,
     layout: Layout,
-    names: &'a [u8],
-    width: usize,
-    places: [usize; 3],
+    names: Line<'a>,
+    places: [usize; MOST],
     cursor: Cursor<'a>,
+
+    // A value line has a field for each column, and there are few.
+    ghost wide: { length (pieces 44 names.text.now) ≡ length layout.columns.now },
+    ghost few: { length layout.columns.now ≤ 3 },
+
+    // Each value stands at its place.
+    ghost placed: { (i : ℕ) → i < arity kind → place (slice_index_or (map (λ v. v.now) layout.values.now) i []) (pieces 44 names.text.now) ≡ Some (slice_index places i) },
+    ghost within: { (i : ℕ) → slice_index places i < 3 },
 }
 
 fn refuse(fault: FileFault, line: usize) -> FileRefusal
@@ -46,10 +52,15 @@ fn check_size(bytes: &[u8]) -> Result<(), FileRefusal>
 }
 
 impl<'a> Reader<'a> {
+    ghost use Rattle.std.specs.Prelude.{◌+◌, Err};
+    ghost use Rattle.reader.specs.Format.{record_of, unended};
+    ghost use Rattle.reader.specs.Layouts.{entry};
+    ghost use Rattle.reader.specs.Reading.{left, Steps};
+
     // The reader of a file, after its names line.
     pub(crate) fn open(kind: Kind, bytes: &'a [u8]) -> Result<Reader<'a>, FileRefusal>
         ensures { MatchResult result
-            (λ reader. (left reader ≡ scan kind bytes.now) × (reader.cursor.line ≡ 1) × Ready reader)
+            (λ reader. (left reader ≡ scan kind bytes.now) × (reader.cursor.line ≡ 1))
             (λ e. scan kind bytes.now ≡ refused e) }
     {
         check_size(bytes)?;
@@ -60,15 +71,11 @@ impl<'a> Reader<'a> {
         let Some(layout) = choose(kind, names) else {
             return Err(refuse(FileFault::NamesWrong, 1));
         };
-        let Some(row) = read_row(names) else {
-            return Err(refuse(FileFault::NamesWrong, 1));
-        };
         let places = find_places(layout.values, names);
         Ok(Reader {
             kind,
             layout,
             names,
-            width: row.width,
             places,
             cursor,
         })
@@ -78,49 +85,51 @@ impl<'a> Reader<'a> {
     pub(crate) fn line(&self) -> usize
         ensures { result ≡ self.now.cursor.line }
     {
-        self.cursor.line()
+        self.cursor.line
     }
 
     // The record of a value line.
-    fn record(&self, line: &[u8]) -> Option<Record>
-        requires { Ready self.now }
-        ensures { result ≡ record_of self.now.kind (entry self.now.layout) (pieces 44 self.now.names.now) (pieces 44 line.now) }
+    fn record(&self, line: Line) -> Option<Record>
+        ensures { result ≡ record_of self.now.kind (entry self.now.layout) (pieces 44 self.now.names.text.now) (pieces 44 line.entry.text.now) }
     {
-        let row = read_row(line)?;
-        if row.width != self.width {
-            return None;
-        }
-        record_in(self.kind, &row.cells, &self.places)
+        let row = line.row(self.layout.columns.len())?;
+        let [first, second, third] = self.places;
+        record_from(
+            self.kind,
+            row.fields[first],
+            row.fields[second],
+            row.fields[third],
+        )
     }
 
     // What becomes of a file that has no byte 10 left, and no end line yet.
     fn cut_off(&self) -> Result<Option<Record>, FileRefusal>
-        requires { Standing self.now.cursor }
-        ensures { result ≡ Err (record { fault = unended (unread self.now.cursor); line = self.now.cursor.line + 1 }) }
+        ensures { result ≡ Err (record { fault = unended self.now.cursor.rest.now; line = self.now.cursor.line + 1 }) }
     {
-        let fault = unended_fault(self.cursor.rest());
-        Err(refuse(fault, self.cursor.line() + 1))
+        let rest = Line {
+            text: self.cursor.rest,
+        };
+        Err(refuse(unended_fault(rest), self.cursor.line + 1))
     }
 
     // The next record, or nothing after the end line.
     pub(crate) fn next(&mut self) -> Result<Option<Record>, FileRefusal>
-        requires { Ready self.old }
         ensures { Steps self.old result self.new }
     {
         let Some(line) = self.cursor.next_line() else {
             return self.cut_off();
         };
-        let number = self.cursor.line();
-        if !is_end(line) {
+        let number = self.cursor.line;
+        if !line.is_end() {
             return match self.record(line) {
                 Some(record) => Ok(Some(record)),
                 None => Err(refuse(FileFault::ValueWrong, number)),
             };
         }
-        if !counts(line, number) {
+        if !line.counts(number) {
             return Err(refuse(FileFault::EndWrong, number));
         }
-        if !self.cursor.rest().is_empty() {
+        if !self.cursor.rest.is_empty() {
             return Err(refuse(FileFault::EndFollowed, number + 1));
         }
         Ok(None)

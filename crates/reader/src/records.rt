@@ -1,8 +1,11 @@
 // What a file says: its kind, and the records of its value lines.
 ghost use Rattle.std.specs.Prelude.{◌≡◌};
-ghost use Rattle.reader.specs.Records.{name_of, named};
+ghost use Rattle.std.specs.Result.{result_ok};
+ghost use Rattle.reader.specs.Records.{name_of, named, side_of};
 
-use crate::fields::same;
+use std::error::Error;
+use std::fmt;
+use std::str::FromStr;
 
 // The four kinds of file.
 #[derive(Clone, Copy, Debug, PartialEq, Eq)]
@@ -25,22 +28,33 @@ impl Kind {
             Kind::FalseSets => "false",
         }
     }
+}
 
-    // The kind of that name, if there is one.
-    pub fn named(name: &str) -> Option<Kind>
-        ensures { result ≡ named name.now }
-    {
-        let bytes = name.as_bytes();
-        if same(bytes, b"arcs") {
-            Some(Kind::Arcs)
-        } else if same(bytes, b"delays") {
-            Some(Kind::Delays)
-        } else if same(bytes, b"bounds") {
-            Some(Kind::Bounds)
-        } else if same(bytes, b"false") {
-            Some(Kind::FalseSets)
-        } else {
-            None
+// A text that names no kind of file.
+#[derive(Clone, Copy, Debug, PartialEq, Eq)]
+pub struct UnknownKind;
+
+impl fmt::Display for UnknownKind {
+    fn fmt<W: fmt::Write>(&self, f: &mut fmt::Formatter<W>) -> fmt::Result {
+        write!(f, "no kind of file has this name")
+    }
+}
+
+impl Error for UnknownKind {}
+
+// The kind of a name on a command line.
+impl FromStr for Kind {
+    type Err = UnknownKind;
+
+    ghost from_str_gives = { λ name r. result_ok r ≡ named name };
+
+    fn from_str(name: &str) -> Result<Kind, UnknownKind> {
+        match name {
+            "arcs" => Ok(Kind::Arcs),
+            "delays" => Ok(Kind::Delays),
+            "bounds" => Ok(Kind::Bounds),
+            "false" => Ok(Kind::FalseSets),
+            _ => Err(UnknownKind),
         }
     }
 }
@@ -50,6 +64,34 @@ impl Kind {
 pub enum Side {
     Start,
     End,
+}
+
+// A letter that names no end of a path.
+#[derive(Clone, Copy, Debug, PartialEq, Eq)]
+pub struct UnknownSide(pub char);
+
+impl fmt::Display for UnknownSide {
+    fn fmt<W: fmt::Write>(&self, f: &mut fmt::Formatter<W>) -> fmt::Result {
+        let letter = self.0;
+        write!(f, "no end of a path has the letter {letter}")
+    }
+}
+
+impl Error for UnknownSide {}
+
+// The end that a letter in a file stands for.
+impl TryFrom<char> for Side {
+    type Error = UnknownSide;
+
+    ghost try_from_gives = { λ letter r. result_ok r ≡ side_of letter };
+
+    fn try_from(letter: char) -> Result<Side, UnknownSide> {
+        match letter {
+            's' => Ok(Side::Start),
+            'e' => Ok(Side::End),
+            _ => Err(UnknownSide(letter)),
+        }
+    }
 }
 
 // What one value line says. The numbers are as written: whoever takes the record checks their range.

@@ -1,99 +1,106 @@
-// The value lines and the end line.
-ghost use Rattle.std.specs.Prelude.{◌≡◌, get_or, Some, slice_index, slice_index_or};
-ghost use Rattle.reader.specs.Pieces.{pieces};
-ghost use Rattle.reader.specs.Format.{is_end, count_is, closes, unended};
-ghost use Rattle.reader.specs.Values.{record_in};
-ghost use Rattle.reader.specs.declared.fields.Cell.TheVariants.{Other};
+// The record of a value line, and what is wrong where no line is whole.
+ghost use Rattle.std.specs.Prelude.{◌≡◌, ℕ, List, [], ◌∷◌, slice_get};
+ghost use Rattle.reader.specs.Fields.{Told};
+ghost use Rattle.reader.specs.Format.{record_from, unended};
+ghost use Rattle.reader.specs.Numbers.{number};
+ghost use Rattle.reader.specs.Records.{letter_side};
 
 use crate::faults::FileFault;
-use crate::fields::{Cell, Fields, same};
+use crate::fields::Line;
 use crate::numbers::read_number;
-use crate::records::{Kind, Record};
+use crate::records::{Kind, Record, Side};
 
-// The cell at a place of a row.
-fn cell_at(cells: &[Cell], place: usize) -> Cell
-    ensures { result ≡ slice_index_or cells.now place Other }
-{
-    if place < cells.len() {
-        cells[place]
-    } else {
-        Cell::Other
+// A field, as a part of the file, told by its form.
+#[derive(Clone, Copy)]
+enum Field<'a> {
+    Name(&'a [u8]),
+    Number { text: &'a [u8], value: i32 },
+    Letter(char),
+}
+
+// A number, else one byte as a letter, else a name.
+impl<'a> From<&'a [u8]> for Field<'a> {
+    ghost from_gives = { λ text field. Told text.now field };
+
+    fn from(text: &'a [u8]) -> Field<'a> {
+        if let Some(value) = read_number(text) {
+            return Field::Number { text, value };
+        }
+        match text {
+            [letter] => Field::Letter(*letter as char),
+            _ => Field::Name(text),
+        }
     }
 }
 
-// The record of a kind, whose values stand at those places among the cells.
-pub(crate) fn record_in(kind: Kind, cells: &[Cell], places: &[usize; 3]) -> Option<Record>
-    ensures { result ≡ record_in kind (λ i. get_or cells.now (slice_index places.now i) Other) }
+impl Field<'_> {
+    fn number(self) -> Option<i32>
+        ensures { (bs : List ℕ) → Told bs self.entry → result ≡ number bs }
+    {
+        match self {
+            Field::Number { value, .. } => Some(value),
+            _ => None,
+        }
+    }
+
+    // The side that a letter names.
+    fn side(self) -> Option<Side>
+        ensures { (bs : List ℕ) → Told bs self.entry → result ≡ letter_side bs }
+    {
+        match self {
+            Field::Letter(letter) => Side::try_from(letter).ok(),
+            _ => None,
+        }
+    }
+}
+
+// The number that a field is told as.
+fn number_in(text: &[u8]) -> Option<i32>
+    ensures { result ≡ number text.now }
 {
-    let first = cell_at(cells, places[0]);
-    let second = cell_at(cells, places[1]);
-    let third = cell_at(cells, places[2]);
+    Field::from(text).number()
+}
+
+// The side that a field is told as.
+fn side_in(text: &[u8]) -> Option<Side>
+    ensures { result ≡ letter_side text.now }
+{
+    Field::from(text).side()
+}
+
+// The record of a kind, by the texts of its values in their order.
+pub(crate) fn record_from(kind: Kind, first: &[u8], second: &[u8], third: &[u8]) -> Option<Record>
+    ensures { result ≡ record_from kind (slice_get (first.now ∷ second.now ∷ third.now ∷ [])) }
+{
     match kind {
         Kind::Arcs => Some(Record::Arc {
-            from: first.number()?,
-            to: second.number()?,
+            from: number_in(first)?,
+            to: number_in(second)?,
         }),
         Kind::Delays => Some(Record::Delay {
-            arc: first.number()?,
-            ticks: second.number()?,
+            arc: number_in(first)?,
+            ticks: number_in(second)?,
         }),
         Kind::Bounds => Some(Record::Bound {
-            node: first.number()?,
-            side: second.side()?,
-            ticks: third.number()?,
+            node: number_in(first)?,
+            side: side_in(second)?,
+            ticks: number_in(third)?,
         }),
         Kind::FalseSets => Some(Record::Pair {
-            set: first.number()?,
-            from: second.number()?,
-            to: third.number()?,
+            set: number_in(first)?,
+            from: number_in(second)?,
+            to: number_in(third)?,
         }),
-    }
-}
-
-// Whether a line's first field is `end`.
-pub(crate) fn is_end(line: &[u8]) -> bool
-    ensures { result ≡ is_end line.now }
-{
-    match Fields::of(line).next_field() {
-        Some(first) => same(first, b"end"),
-        None => false,
-    }
-}
-
-// Whether n value lines stand before the end line, which is line `number`.
-fn counts_before(n: i32, number: usize) -> bool
-    ensures { result ≡ count_is number (Some n) }
-{
-    n >= 0 && n as usize + 2 == number
-}
-
-// Whether the end line, which is line `number`, counts the value lines before it.
-pub(crate) fn counts(line: &[u8], number: usize) -> bool
-    ensures { result ≡ closes number (pieces 44 line.now) }
-{
-    let mut fields = Fields::of(line);
-    let Some(_) = fields.next_field() else {
-        return false;
-    };
-    let Some(count) = fields.next_field() else {
-        return false;
-    };
-    let None = fields.next_field() else {
-        return false;
-    };
-    match read_number(count) {
-        Some(n) => counts_before(n, number),
-        None => false,
     }
 }
 
 // What is wrong with the bytes after the last byte 10, where the end line has not come.
-pub(crate) fn unended_fault(rest: &[u8]) -> FileFault
-    ensures { result ≡ unended rest.now }
+pub(crate) fn unended_fault(rest: Line) -> FileFault
+    ensures { result ≡ unended rest.entry.text.now }
 {
-    if rest.is_empty() {
+    if rest.text.is_empty() {
         FileFault::EndMissing
-    } else if is_end(rest) {
+    } else if rest.is_end() {
         FileFault::EndUnended
     } else {
         FileFault::ValueUnended

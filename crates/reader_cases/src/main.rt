@@ -6,7 +6,7 @@
 mod longest;
 
 use longest::at_the_limit;
-use reader::{Kind, count};
+use reader::{FileRefusal, Kind, count};
 use std::alloc::{AllocError, Global};
 use std::io;
 
@@ -17,17 +17,23 @@ pub struct Verdict {
     pub place: usize,
 }
 
-pub fn judge_file(kind: Kind, bytes: &[u8]) -> Verdict {
-    match count(kind, bytes) {
-        Ok(lines) => Verdict {
-            number: 0,
-            place: lines,
-        },
-        Err(refusal) => Verdict {
-            number: refusal.fault.number(),
-            place: refusal.line,
-        },
+impl From<Result<usize, FileRefusal>> for Verdict {
+    fn from(counted: Result<usize, FileRefusal>) -> Verdict {
+        match counted {
+            Ok(lines) => Verdict {
+                number: 0,
+                place: lines,
+            },
+            Err(refusal) => Verdict {
+                number: refusal.fault.number(),
+                place: refusal.line,
+            },
+        }
     }
+}
+
+pub fn judge_file(kind: Kind, bytes: &[u8]) -> Verdict {
+    Verdict::from(count(kind, bytes))
 }
 
 // The file that a case spells.
@@ -56,10 +62,10 @@ struct Tally {
 fn judge(rt: &HostRuntime, line: &str, tally: Tally) -> io::Result<Tally> {
     let cases = tally.cases.saturating_add(1);
     let mut words = line.split(' ');
-    let kind = Kind::named(words.next().unwrap_or(""));
+    let kind = words.next().unwrap_or("").parse::<Kind>();
     let number = words.next().unwrap_or("").parse::<u8>();
     let place = words.next().unwrap_or("").parse::<usize>();
-    let (Some(kind), Ok(number), Ok(place)) = (kind, number, place) else {
+    let (Ok(kind), Ok(number), Ok(place)) = (kind, number, place) else {
         println!(rt; "no case: {line}")?;
         return Ok(Tally { cases, ..tally });
     };

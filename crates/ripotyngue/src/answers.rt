@@ -1,23 +1,23 @@
 // What the shell answers, one line for each call, or a list with an end line.
-use crate::rows::row_list;
-use crate::tables::Tables;
+use crate::rows::list;
 use ledger::Reply;
 use measure::Measure;
 use reader::FileRefusal;
 use sheet::{Line, TraceRefusal};
-use std::alloc::{AllocError, Global};
+use std::fmt::Display;
 use std::io;
+use tables::Tables;
 use timing::TimeRefusal;
 
 // A line of the sheet that no timing wrote has this node.
-const NO_NODE: u16 = 256;
+const NO_NODE: u16 = Line::BLANK.node;
 
 pub fn answer_ok(rt: &HostRuntime) -> io::Result<()> {
     rt.println("ok")
 }
 
-pub fn answer_error(rt: &HostRuntime, words: &str) -> io::Result<()> {
-    println!(rt; "error: {words}")
+pub fn answer_error(rt: &HostRuntime, error: impl Display + Drop) -> io::Result<()> {
+    println!(rt; "error: {error}")
 }
 
 pub fn answer_refused(rt: &HostRuntime, number: u8) -> io::Result<()> {
@@ -54,16 +54,7 @@ pub fn answer_time(rt: &HostRuntime, answer: Result<usize, TimeRefusal>) -> io::
             println!(rt; "refused 12 cause {cause} arc {arc} level {level}")
         }
         Err(TimeRefusal::OutOfRange(arc)) => println!(rt; "refused 13 arc {arc}"),
-        Err(TimeRefusal::WrongLength) => answer_refused(rt, 14),
-        Err(TimeRefusal::TooFewLines) => answer_refused(rt, 15),
-    }
-}
-
-fn required_text<M: Measure>(heap: Global, line: Line, row: M) -> Result<String, AllocError> {
-    if line.required {
-        row_list(heap, row)
-    } else {
-        format!(in heap; "none")
+        Err(refusal) => answer_refused(rt, refusal.number()),
     }
 }
 
@@ -81,24 +72,27 @@ fn answer_line<M: Measure>(
         back_line,
         fore_arc,
         fore_line,
-        required: _,
+        required: has_required,
     } = line;
-    let arrival = row_list(rt.alloc(), arrival)?;
-    let required = required_text(rt.alloc(), line, required)?;
-    print!(rt; "line {i} node {node} tag {tag} arrival {arrival} ")?;
-    println!(rt; "back {back_arc} {back_line} required {required} fore {fore_arc} {fore_line}")
+    let arrival = list(arrival);
+    print!(rt; "line {i} node {node} tag {tag} arrival {arrival} back {back_arc} {back_line} ")?;
+    if has_required {
+        let required = list(required);
+        print!(rt; "required {required}")?;
+    } else {
+        rt.print("required none")?;
+    }
+    println!(rt; " fore {fore_arc} {fore_line}")
 }
 
 // The lines that the last timing wrote.
 pub fn answer_sheet<M: Measure>(rt: &HostRuntime, tables: &Tables<M>) -> io::Result<()> {
-    for (i, line) in tables.lines.iter().enumerate() {
+    let times = tables.arrivals.iter().zip(tables.required.iter());
+    let lines = tables.lines.iter().zip(times).enumerate();
+    for (i, (line, (arrival, required))) in lines {
         if line.node >= NO_NODE {
             break;
         }
-        let (Some(arrival), Some(required)) = (tables.arrivals.get(i), tables.required.get(i))
-        else {
-            break;
-        };
         answer_line(rt, i, *line, *arrival, *required)?;
     }
     rt.println("end")
@@ -106,26 +100,15 @@ pub fn answer_sheet<M: Measure>(rt: &HostRuntime, tables: &Tables<M>) -> io::Res
 
 // The nodes that have a slack.
 pub fn answer_slacks<M: Measure>(rt: &HostRuntime, tables: &Tables<M>) -> io::Result<()> {
-    for (node, entry) in tables.nodes.iter().enumerate() {
-        if !entry.timed {
-            continue;
+    let entries = tables.nodes.iter().zip(tables.slacks.iter()).enumerate();
+    for (node, (entry, slack)) in entries {
+        if entry.timed {
+            let slack = list(*slack);
+            let line = entry.line;
+            println!(rt; "node {node} slack {slack} line {line}")?;
         }
-        let Some(slack) = tables.slacks.get(node) else {
-            break;
-        };
-        let row = row_list(rt.alloc(), *slack)?;
-        let line = entry.line;
-        println!(rt; "node {node} slack {row} line {line}")?;
     }
     rt.println("end")
-}
-
-fn answer_path(rt: &HostRuntime, arcs: &[u16], count: usize) -> io::Result<()> {
-    rt.print("path")?;
-    for arc in arcs.iter().take(count) {
-        print!(rt; " {arc}")?;
-    }
-    rt.println("")
 }
 
 pub fn answer_trace(
@@ -134,7 +117,13 @@ pub fn answer_trace(
     answer: Result<Option<usize>, TraceRefusal>,
 ) -> io::Result<()> {
     match answer {
-        Ok(Some(count)) => answer_path(rt, arcs, count),
+        Ok(Some(count)) => {
+            rt.print("path")?;
+            for arc in arcs.iter().take(count) {
+                print!(rt; " {arc}")?;
+            }
+            rt.println("")
+        }
         Ok(None) => rt.println("none"),
         Err(refusal) => answer_refused(rt, refusal.number()),
     }

@@ -1,8 +1,10 @@
 // The command `check`: whether files are good ones of a kind.
+use crate::failure::Failure;
 use crate::input::read_file;
 use reader::{Kind, count};
 use std::env::Args;
 use std::io;
+use std::process::ExitCode;
 
 // Says what the reader makes of a file's bytes, and answers whether it took them.
 pub fn judge(rt: &HostRuntime, name: &str, kind: Kind, bytes: &[u8]) -> io::Result<bool> {
@@ -19,7 +21,8 @@ pub fn judge(rt: &HostRuntime, name: &str, kind: Kind, bytes: &[u8]) -> io::Resu
     }
 }
 
-fn check_file(rt: &HostRuntime, kind: Kind, path: &str) -> io::Result<bool> {
+// The same of the file at a path. One that cannot be read is told and is not taken, so that the next has its turn.
+fn judge_file(rt: &HostRuntime, path: &str, kind: Kind) -> io::Result<bool> {
     match read_file(rt, path) {
         Ok(bytes) => judge(rt, path, kind, bytes.as_slice()),
         Err(error) => {
@@ -29,29 +32,24 @@ fn check_file(rt: &HostRuntime, kind: Kind, path: &str) -> io::Result<bool> {
     }
 }
 
-// One line for each file; answers whether all were good.
-pub fn check(rt: &HostRuntime, words: &mut Args) -> io::Result<bool> {
-    let Some(word) = words.next() else {
-        rt.eprintln("ripotyngue: check needs a kind: arcs, delays, bounds or false")?;
-        return Ok(false);
+pub fn status(well: bool) -> ExitCode {
+    if well {
+        ExitCode::SUCCESS
+    } else {
+        ExitCode::FAILURE
+    }
+}
+
+// One line for each file; it went well where all were taken.
+pub fn check(rt: &HostRuntime, mut words: Args) -> Result<ExitCode, Failure> {
+    let word = words.next().ok_or(Failure::NoKind)?;
+    let Ok(kind) = word.as_str().parse::<Kind>() else {
+        return Err(Failure::UnknownKind(word));
     };
-    let Some(kind) = Kind::named(word.as_str()) else {
-        eprintln!(rt;
-            "ripotyngue: unknown kind '{word}': the kinds are arcs, delays, bounds and false"
-        )?;
-        return Ok(false);
-    };
-    let mut files = 0u64;
-    let mut good = true;
+    let first = words.next().ok_or(Failure::NoFile)?;
+    let mut good = judge_file(rt, first.as_str(), kind)?;
     for path in words {
-        files = files.wrapping_add(1);
-        if !check_file(rt, kind, path.as_str())? {
-            good = false;
-        }
+        good &= judge_file(rt, path.as_str(), kind)?;
     }
-    if files == 0 {
-        rt.eprintln("ripotyngue: check needs a file")?;
-        return Ok(false);
-    }
-    Ok(good)
+    Ok(status(good))
 }

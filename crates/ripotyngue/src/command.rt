@@ -1,9 +1,10 @@
 // A line of the shell as a command.
-use crate::choices::MeasureName;
+use crate::choices::{MeasureName, WrongValue};
 use crate::words::{decimal, first_word, trimmed, without_tail};
 use ledger::Call;
 use reader::Kind;
 use std::str::from_utf8;
+use thiserror::Error;
 
 #[derive(Clone, Copy)]
 pub enum Command<'a> {
@@ -21,190 +22,130 @@ pub enum Command<'a> {
     Sheet,
     Slacks,
     Trace { node: i32 },
-    // No command, and what is wrong with it.
-    Wrong(&'static str),
 }
 
-// The numbers after a command's name; `count` is 4 where there are more than three.
-#[derive(Clone, Copy)]
-struct Numbers {
-    count: usize,
-    first: i32,
-    second: i32,
-    third: i32,
+// Why a line is no command that can be served.
+#[derive(Clone, Copy, Debug, Error)]
+pub enum NoCommand {
+    #[error("unknown command")]
+    Unknown,
+    #[error("a word is no decimal number")]
+    NoNumber,
+    #[error("this command takes {}", numbers_of(.0))]
+    Count(usize),
+    #[error("load takes a kind, which is arcs, delays, bounds or false, and a path")]
+    LoadKind,
+    #[error("load takes a path after the kind")]
+    LoadPath,
+    #[error("the path is no text")]
+    PathNoText,
+    #[error("margin takes a number of thousandths, or off")]
+    Margin,
+    #[error("measure {0}")]
+    Measure(WrongValue),
+    #[error("no trial is open")]
+    NoTrial,
+    #[error("while a trial is open only time, sheet, slacks, trace and endtrial are served")]
+    InTrial,
 }
 
-fn numbers_in(text: &[u8]) -> Option<Numbers> {
-    let mut numbers = Numbers {
-        count: 0,
-        first: 0,
-        second: 0,
-        third: 0,
-    };
+fn numbers_of(count: &usize) -> &'static str {
+    match *count {
+        0 => "no number",
+        1 => "one number",
+        2 => "two numbers",
+        _ => "three numbers",
+    }
+}
+
+// The numbers after a command's name, as many as it takes. No command takes more than three.
+fn numbers<const N: usize>(text: &[u8]) -> Result<[i32; N], NoCommand> {
+    let mut numbers = [0; N];
     let mut rest = text;
-    for i in 0..4usize {
+    for count in 0..4usize {
         let (word, after) = first_word(rest);
-        if word.is_empty() {
-            return Some(numbers);
+        if word.is_empty() && count == N {
+            return Ok(numbers);
         }
-        let value = decimal(word)?;
-        numbers.count = i + 1;
-        match i {
-            0 => numbers.first = value,
-            1 => numbers.second = value,
-            _ => numbers.third = value,
+        if word.is_empty() {
+            break;
+        }
+        let number = decimal(word).ok_or(NoCommand::NoNumber)?;
+        if let Some(place) = numbers.get_mut(count) {
+            *place = number;
         }
         rest = after;
     }
-    Some(numbers)
+    Err(NoCommand::Count(N))
 }
 
-// How many numbers the command takes, if it takes only numbers.
-fn numbers_of(name: &[u8]) -> Option<usize> {
+// A command that changes the graph.
+fn call_named(name: &[u8], rest: &[u8]) -> Result<Call<'static>, NoCommand> {
     match name {
-        b"endtrial" | b"time" | b"sheet" | b"slacks" => Some(0),
-        b"drop" | b"clear" | b"lines" | b"trace" => Some(1),
-        b"arc" | b"start" | b"end" | b"trim" | b"trial" => Some(2),
-        b"pair" => Some(3),
-        _ => None,
+        b"arc" => numbers::<2>(rest).map(|[from, to]| Call::AddArc { from, to }),
+        b"drop" => numbers::<1>(rest).map(|[arc]| Call::DropArc { arc }),
+        b"start" => numbers::<2>(rest).map(|[node, ticks]| Call::SetStart { node, ticks }),
+        b"end" => numbers::<2>(rest).map(|[node, ticks]| Call::SetEnd { node, ticks }),
+        b"trim" => numbers::<2>(rest).map(|[arc, ticks]| Call::SetTrim { arc, ticks }),
+        b"pair" => numbers::<3>(rest).map(|[set, from, to]| Call::Pair { set, from, to }),
+        b"clear" => numbers::<1>(rest).map(|[set]| Call::Clear { set }),
+        _ => Err(NoCommand::Unknown),
     }
 }
 
-fn wrong_count(wanted: usize) -> &'static str {
-    match wanted {
-        0 => "this command takes no number",
-        1 => "this command takes one number",
-        2 => "this command takes two numbers",
-        _ => "this command takes three numbers",
-    }
-}
-
-// A command that changes the graph, with as many numbers as it takes.
-fn call_named(name: &[u8], numbers: Numbers) -> Option<Call<'static>> {
-    let Numbers {
-        count: _,
-        first,
-        second,
-        third,
-    } = numbers;
+// A command that takes only numbers.
+fn numbered(name: &[u8], rest: &[u8]) -> Result<Command<'static>, NoCommand> {
     match name {
-        b"arc" => Some(Call::AddArc {
-            from: first,
-            to: second,
-        }),
-        b"drop" => Some(Call::DropArc { arc: first }),
-        b"start" => Some(Call::SetStart {
-            node: first,
-            ticks: second,
-        }),
-        b"end" => Some(Call::SetEnd {
-            node: first,
-            ticks: second,
-        }),
-        b"trim" => Some(Call::SetTrim {
-            arc: first,
-            ticks: second,
-        }),
-        b"pair" => Some(Call::Pair {
-            set: first,
-            from: second,
-            to: third,
-        }),
-        b"clear" => Some(Call::Clear { set: first }),
-        _ => None,
-    }
-}
-
-// A command with as many numbers as it takes.
-fn with_numbers(name: &[u8], numbers: Numbers) -> Command<'static> {
-    if let Some(call) = call_named(name, numbers) {
-        return Command::Make(call);
-    }
-    match name {
-        b"trial" => Command::Trial {
-            arc: numbers.first,
-            ticks: numbers.second,
-        },
-        b"lines" => Command::Lines(numbers.first),
-        b"trace" => Command::Trace {
-            node: numbers.first,
-        },
-        b"endtrial" => Command::EndTrial,
-        b"time" => Command::Time,
-        b"sheet" => Command::Sheet,
-        b"slacks" => Command::Slacks,
-        _ => Command::Wrong("unknown command"),
-    }
-}
-
-fn numbered(name: &[u8], rest: &[u8]) -> Command<'static> {
-    let Some(wanted) = numbers_of(name) else {
-        return Command::Wrong("unknown command");
-    };
-    let Some(numbers) = numbers_in(rest) else {
-        return Command::Wrong("a word is no decimal number");
-    };
-    if numbers.count != wanted {
-        return Command::Wrong(wrong_count(wanted));
-    }
-    with_numbers(name, numbers)
-}
-
-fn kind_named(name: &[u8]) -> Option<Kind> {
-    match name {
-        b"arcs" => Some(Kind::Arcs),
-        b"delays" => Some(Kind::Delays),
-        b"bounds" => Some(Kind::Bounds),
-        b"false" => Some(Kind::FalseSets),
-        _ => None,
+        b"trial" => numbers::<2>(rest).map(|[arc, ticks]| Command::Trial { arc, ticks }),
+        b"lines" => numbers::<1>(rest).map(|[count]| Command::Lines(count)),
+        b"trace" => numbers::<1>(rest).map(|[node]| Command::Trace { node }),
+        b"endtrial" => numbers::<0>(rest).map(|[]| Command::EndTrial),
+        b"time" => numbers::<0>(rest).map(|[]| Command::Time),
+        b"sheet" => numbers::<0>(rest).map(|[]| Command::Sheet),
+        b"slacks" => numbers::<0>(rest).map(|[]| Command::Slacks),
+        _ => call_named(name, rest).map(Command::Make),
     }
 }
 
 // The path is all that follows the kind, so that it may have blanks within.
-fn load_command(rest: &[u8]) -> Command<'_> {
+fn load_command(rest: &[u8]) -> Result<Command<'_>, NoCommand> {
     let (word, after) = first_word(rest);
-    let Some(kind) = kind_named(word) else {
-        return Command::Wrong(
-            "load takes a kind, which is arcs, delays, bounds or false, and a path",
-        );
-    };
+    let kind = from_utf8(word)
+        .ok()
+        .and_then(|word| word.parse::<Kind>().ok())
+        .ok_or(NoCommand::LoadKind)?;
     let path = without_tail(trimmed(after));
     if path.is_empty() {
-        return Command::Wrong("load takes a path after the kind");
+        return Err(NoCommand::LoadPath);
     }
     match from_utf8(path) {
-        Ok(path) => Command::Load { kind, path },
-        Err(_) => Command::Wrong("the path is no text"),
+        Ok(path) => Ok(Command::Load { kind, path }),
+        Err(_) => Err(NoCommand::PathNoText),
     }
 }
 
-fn margin_command(rest: &[u8]) -> Command<'static> {
-    let (word, after) = first_word(rest);
-    if !trimmed(after).is_empty() {
-        return Command::Wrong("margin takes a number of thousandths, or off");
-    }
-    if let b"off" = word {
-        return Command::Margin(None);
-    }
-    match decimal(word) {
-        Some(number) => Command::Margin(Some(number)),
-        None => Command::Wrong("margin takes a number of thousandths, or off"),
+fn margin_command(rest: &[u8]) -> Result<Command<'static>, NoCommand> {
+    match without_tail(trimmed(rest)) {
+        b"off" => Ok(Command::Margin(None)),
+        word => {
+            let number = decimal(word).ok_or(NoCommand::Margin)?;
+            Ok(Command::Margin(Some(number)))
+        }
     }
 }
 
-fn measure_command(rest: &[u8]) -> Command<'static> {
-    match MeasureName::named(without_tail(trimmed(rest))) {
-        Some(name) => Command::Measure(name),
-        None => Command::Wrong("measure takes ticks, staged, early or early-staged"),
-    }
+fn measure_command(rest: &[u8]) -> Result<Command<'static>, NoCommand> {
+    let word = from_utf8(without_tail(trimmed(rest))).map_err(|_| NoCommand::Measure(
+        WrongValue::Measure,
+    ))?;
+    let name = word.parse().map_err(NoCommand::Measure)?;
+    Ok(Command::Measure(name))
 }
 
-pub fn parse(line: &[u8]) -> Command<'_> {
+pub fn parse(line: &[u8]) -> Result<Command<'_>, NoCommand> {
     let (name, rest) = first_word(line);
-    if name.is_empty() || name[0] == b'#' {
-        return Command::Pass;
-    }
     match name {
+        [] | [b'#', ..] => Ok(Command::Pass),
         b"load" => load_command(rest),
         b"margin" => margin_command(rest),
         b"measure" => measure_command(rest),

@@ -1,11 +1,13 @@
 // The commands `demo`: built-in files, good ones and damaged ones, through the reader, then measures and sources; and
 // `demo-block`: the timing of a block.
-use crate::check::judge;
+use crate::check::{judge, status};
 use crate::demo_block::{BlockFiles, show_block};
 use crate::demo_measures::show_measures;
 use crate::demo_sources::show_sources;
+use crate::failure::Failure;
 use reader::{Kind, LIMIT, count};
 use std::io;
+use std::process::ExitCode;
 
 // Two selectors, one behind the other, that always choose the same way.
 const ARCS: &[u8] = b"from,to\n0,1\n0,2\n1,3\n2,3\n3,4\n3,5\n4,6\n5,6\nend,8\n";
@@ -16,41 +18,66 @@ const BOUNDS: &[u8] = b"node,side,ticks\n0,s,0\n6,e,350\nend,2\n";
 
 const FALSE_SETS: &[u8] = b"set,from,to\n0,1,4\nend,1\n";
 
+// Bytes that are read as a file of a kind.
+#[derive(Clone, Copy)]
+struct Sample<'a> {
+    name: &'static str,
+    kind: Kind,
+    bytes: &'a [u8],
+}
+
+impl<'a> Sample<'a> {
+    fn new(name: &'static str, kind: Kind, bytes: &'a [u8]) -> Sample<'a> {
+        Sample { name, kind, bytes }
+    }
+}
+
+// The files of the block.
+fn block_samples() -> [Sample<'static>; 4] {
+    [
+        Sample::new("arcs.txt", Kind::Arcs, ARCS),
+        Sample::new("delays.txt", Kind::Delays, DELAYS),
+        Sample::new("bounds.txt", Kind::Bounds, BOUNDS),
+        Sample::new("false.txt", Kind::FalseSets, FALSE_SETS),
+    ]
+}
+
+// Says of each what the reader makes of it, and answers how many it took.
+fn judge_all(rt: &HostRuntime, samples: &[Sample<'_>]) -> io::Result<usize> {
+    let mut taken = 0usize;
+    for sample in samples {
+        if judge(rt, sample.name, sample.kind, sample.bytes)? {
+            taken = taken.saturating_add(1);
+        }
+    }
+    Ok(taken)
+}
+
 fn good_files(rt: &HostRuntime) -> io::Result<bool> {
     rt.println("Good files:")?;
-    let arcs = judge(rt, "arcs.txt", Kind::Arcs, ARCS)?;
-    let delays = judge(rt, "delays.txt", Kind::Delays, DELAYS)?;
-    let bounds = judge(rt, "bounds.txt", Kind::Bounds, BOUNDS)?;
-    let pairs = judge(rt, "false.txt", Kind::FalseSets, FALSE_SETS)?;
+    let taken = judge_all(rt, &block_samples())?;
     let none = judge(rt, "no-sets.txt", Kind::FalseSets, b"set,from,to\nend,0\n")?;
-    Ok(arcs && delays && bounds && pairs && none)
+    Ok(taken == 4 && none)
 }
 
 // How many beginnings of a file, short of its end, are taken.
 fn taken_beginnings(kind: Kind, bytes: &[u8]) -> usize {
-    let mut taken = 0usize;
-    for end in 0..bytes.len() {
-        if count(kind, &bytes[0..end]).is_ok() {
-            taken = taken.wrapping_add(1);
-        }
-    }
-    taken
-}
-
-fn cut_short(rt: &HostRuntime, name: &str, kind: Kind, bytes: &[u8]) -> io::Result<bool> {
-    let all = bytes.len();
-    let taken = taken_beginnings(kind, bytes);
-    println!(rt; "{name}: of its {all} beginnings short of its end, {taken} are taken")?;
-    Ok(taken == 0)
+    (0..bytes.len())
+        .filter_map(|end| bytes.get(..end))
+        .filter(|beginning| count(kind, beginning).is_ok())
+        .count()
 }
 
 fn cut_files(rt: &HostRuntime) -> io::Result<bool> {
     rt.println("The same files, cut short at every byte:")?;
-    let arcs = cut_short(rt, "arcs.txt", Kind::Arcs, ARCS)?;
-    let delays = cut_short(rt, "delays.txt", Kind::Delays, DELAYS)?;
-    let bounds = cut_short(rt, "bounds.txt", Kind::Bounds, BOUNDS)?;
-    let pairs = cut_short(rt, "false.txt", Kind::FalseSets, FALSE_SETS)?;
-    Ok(arcs && delays && bounds && pairs)
+    let mut well = true;
+    for Sample { name, kind, bytes } in block_samples() {
+        let all = bytes.len();
+        let taken = taken_beginnings(kind, bytes);
+        println!(rt; "{name}: of its {all} beginnings short of its end, {taken} are taken")?;
+        well &= taken == 0;
+    }
+    Ok(well)
 }
 
 // Fills the bytes with junk that is the same in every run, and has no line feed.
@@ -66,46 +93,31 @@ fn damaged_files(rt: &HostRuntime) -> io::Result<bool> {
     rt.println("Damaged files:")?;
     let mut junk = [0u8; LIMIT + 1];
     scramble(&mut junk);
-    let mut taken = judge(rt, "no bytes", Kind::FalseSets, b"")?;
-    taken |= judge(
+    let sets = Kind::FalseSets;
+    let taken = judge_all(
         rt,
-        "cut in a value line",
-        Kind::FalseSets,
-        b"set,from,to\n0,1",
+        &[
+            Sample::new("no bytes", sets, b""),
+            Sample::new("cut in a value line", sets, b"set,from,to\n0,1"),
+            Sample::new("cut before the end line", sets, b"set,from,to\n0,1,4\n"),
+            Sample::new("a wrong count", Kind::Arcs, b"from,to\n0,1\nend,2\n"),
+            Sample::new("a name twice", Kind::Arcs, b"from,from\nend,0\n"),
+            Sample::new("a leading zero", Kind::Arcs, b"from,to\n0,1\n0,02\nend,2\n"),
+            Sample::new(
+                "a side that is none",
+                Kind::Bounds,
+                b"node,side,ticks\n0,x,0\nend,1\n",
+            ),
+            Sample::new("bytes after the end", Kind::Delays, b"arc,ticks\nend,0\n\n"),
+            Sample::new("60000 bytes of junk", sets, &junk[..LIMIT]),
+            Sample::new("60001 bytes of junk", sets, &junk),
+        ],
     )?;
-    taken |= judge(
-        rt,
-        "cut before the end line",
-        Kind::FalseSets,
-        b"set,from,to\n0,1,4\n",
-    )?;
-    taken |= judge(rt, "a wrong count", Kind::Arcs, b"from,to\n0,1\nend,2\n")?;
-    taken |= judge(rt, "a name twice", Kind::Arcs, b"from,from\nend,0\n")?;
-    taken |= judge(
-        rt,
-        "a leading zero",
-        Kind::Arcs,
-        b"from,to\n0,1\n0,02\nend,2\n",
-    )?;
-    taken |= judge(
-        rt,
-        "a side that is none",
-        Kind::Bounds,
-        b"node,side,ticks\n0,x,0\nend,1\n",
-    )?;
-    taken |= judge(
-        rt,
-        "bytes after the end",
-        Kind::Delays,
-        b"arc,ticks\nend,0\n\n",
-    )?;
-    taken |= judge(rt, "60000 bytes of junk", Kind::FalseSets, &junk[0..LIMIT])?;
-    taken |= judge(rt, "60001 bytes of junk", Kind::FalseSets, &junk)?;
-    Ok(!taken)
+    Ok(taken == 0)
 }
 
-// Answers whether every file was judged as it should be.
-pub fn demo(rt: &HostRuntime) -> io::Result<bool> {
+// It went well where every file was judged as it should be.
+pub fn demo(rt: &HostRuntime) -> Result<ExitCode, Failure> {
     let good = good_files(rt)?;
     let cut = cut_files(rt)?;
     let damaged = damaged_files(rt)?;
@@ -115,11 +127,11 @@ pub fn demo(rt: &HostRuntime) -> io::Result<bool> {
     }
     show_measures(rt)?;
     show_sources(rt)?;
-    Ok(well)
+    Ok(status(well))
 }
 
-// Times the block of the good files. Answers whether all went as it should.
-pub fn demo_block(rt: &HostRuntime) -> io::Result<bool> {
+// Times the block of the good files.
+pub fn demo_block(rt: &HostRuntime) -> Result<(), Failure> {
     show_block(
         rt,
         BlockFiles {

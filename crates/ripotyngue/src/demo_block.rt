@@ -1,10 +1,12 @@
 // The two-selector block, from its files to its slacks and paths.
-use crate::report::{show_path, show_slacks, show_worst, tell_worst};
+use crate::choices::Shown;
+use crate::delays::Delays;
+use crate::failure::Failure;
+use crate::report::Report;
 use crate::running::run_steps;
-use crate::tables::{Delays, MOST_LINES, Tables, blank_tables};
 use crate::time::load_step;
 use delay::load_delays;
-use graph::{GraphFile, TimingGraph};
+use graph::GraphFile;
 use history::{Step, StepReply};
 use ledger::{Act, Reply};
 use measure::{Early, Measure, Ticks};
@@ -19,6 +21,9 @@ pub struct BlockFiles<'a> {
     pub false_sets: &'a [u8],
 }
 
+// A step and its name.
+type Named<'a> = (&'static str, Step<'a>);
+
 fn show_reply(rt: &HostRuntime, step: &str, reply: StepReply) -> io::Result<()> {
     match reply {
         StepReply::Act(Reply::FileRefused(refusal)) => println!(rt; "{step}: refused, {refusal}"),
@@ -32,47 +37,38 @@ fn show_reply(rt: &HostRuntime, step: &str, reply: StepReply) -> io::Result<()> 
     }
 }
 
-fn show_replies(rt: &HostRuntime, names: &[&str], replies: &[StepReply]) -> io::Result<()> {
-    for (i, reply) in replies.iter().enumerate() {
-        if let Some(name) = names.get(i) {
-            show_reply(rt, name, *reply)?;
-        }
+// Runs the steps, and says what each answered.
+fn run_shown<'a, M: Measure>(
+    rt: &'a HostRuntime,
+    named: &[Named<'_>],
+    delays: &'a Delays,
+) -> Result<Report<'a, M>, Failure> {
+    let steps = named
+        .iter()
+        .map(|(_, step)| *step)
+        .collect::<Vec<_>>(rt.alloc())?;
+    let mut replies = vec![in rt.alloc(); StepReply::Time(Ok(0)); steps.len()]?;
+    let report = run_steps(rt, steps.as_slice(), delays, replies.as_mut_slice())?;
+    for ((name, _), reply) in named.iter().zip(replies.iter()) {
+        show_reply(rt, name, *reply)?;
     }
-    Ok(())
+    Ok(report)
 }
 
-// Runs the steps on a new graph and says what each answered, or nothing where they do not fit together.
-fn run_shown<M: Measure>(
-    rt: &HostRuntime,
-    steps: &[Step<'_>],
-    names: &[&str],
-    delays: &Delays,
-    tables: &mut Tables<M>,
-    replies: &mut [StepReply],
-) -> io::Result<Option<TimingGraph>> {
-    let Ok(graph) = run_steps(steps, delays, tables, replies) else {
-        return Ok(None);
-    };
-    show_replies(rt, names, replies)?;
-    Ok(Some(graph))
-}
-
-fn without_sets(rt: &HostRuntime, files: BlockFiles<'_>, delays: &Delays) -> io::Result<bool> {
+fn without_sets(rt: &HostRuntime, files: BlockFiles<'_>, delays: &Delays) -> Result<(), Failure> {
     println!(rt; "Without false sets, by ticks:")?;
-    let mut tables = blank_tables::<Ticks>(rt.alloc(), MOST_LINES)?;
     let steps = [
-        load_step(GraphFile::Arcs, files.arcs),
-        load_step(GraphFile::Bounds, files.bounds),
-        Step::Time,
+        ("load arcs.txt", load_step(GraphFile::Arcs, files.arcs)),
+        (
+            "load bounds.txt",
+            load_step(GraphFile::Bounds, files.bounds),
+        ),
+        ("time", Step::Time),
     ];
-    let names = ["load arcs.txt", "load bounds.txt", "time"];
-    let mut replies = [StepReply::Time(Ok(0)); 3];
-    let Some(graph) = run_shown(rt, &steps, &names, delays, &mut tables, &mut replies)? else {
-        return Ok(false);
-    };
-    show_slacks(rt, &tables)?;
-    tell_worst(rt, &tables)?;
-    show_worst(rt, &graph, delays, &mut tables)
+    let report = run_shown::<Ticks>(rt, &steps, delays)?;
+    report.show_slacks()?;
+    report.tell_worst()?;
+    report.show_paths(Shown::Worst)
 }
 
 // With the false set, by any measure.
@@ -81,120 +77,83 @@ fn with_sets<M: Measure>(
     files: BlockFiles<'_>,
     delays: &Delays,
     node: i32,
-) -> io::Result<bool> {
-    let mut tables = blank_tables::<M>(rt.alloc(), MOST_LINES)?;
+) -> Result<(), Failure> {
     let steps = [
-        load_step(GraphFile::Arcs, files.arcs),
-        load_step(GraphFile::Bounds, files.bounds),
-        load_step(GraphFile::FalseSets, files.false_sets),
-        Step::Time,
+        ("load arcs.txt", load_step(GraphFile::Arcs, files.arcs)),
+        (
+            "load bounds.txt",
+            load_step(GraphFile::Bounds, files.bounds),
+        ),
+        (
+            "load false.txt",
+            load_step(GraphFile::FalseSets, files.false_sets),
+        ),
+        ("time", Step::Time),
     ];
-    let names = ["load arcs.txt", "load bounds.txt", "load false.txt", "time"];
-    let mut replies = [StepReply::Time(Ok(0)); 4];
-    let Some(graph) = run_shown(rt, &steps, &names, delays, &mut tables, &mut replies)? else {
-        return Ok(false);
+    let report = run_shown::<M>(rt, &steps, delays)?;
+    report.show_slacks()?;
+    report.tell_worst()?;
+    report.show_paths(Shown::Worst)?;
+    report.show_paths(Shown::Node(node))
+}
+
+// The slacks under a trial of arc 0, and after it.
+fn with_trial(rt: &HostRuntime, files: BlockFiles<'_>, delays: &Delays) -> Result<(), Failure> {
+    let open = Act::Open {
+        arc: 0,
+        ticks: -100,
     };
-    show_slacks(rt, &tables)?;
-    tell_worst(rt, &tables)?;
-    let worst = show_worst(rt, &graph, delays, &mut tables)?;
-    let other = show_path(rt, &graph, delays, &mut tables, node)?;
-    Ok(worst && other)
-}
-
-// The slack of node 6 under a trial of arc 0, and after it.
-fn under_trial(rt: &HostRuntime, files: BlockFiles<'_>, delays: &Delays) -> io::Result<bool> {
+    let steps = [
+        ("load arcs.txt", load_step(GraphFile::Arcs, files.arcs)),
+        (
+            "load bounds.txt",
+            load_step(GraphFile::Bounds, files.bounds),
+        ),
+        ("trial", Step::Act(open)),
+        ("time", Step::Time),
+        ("its end", Step::Act(Act::End)),
+        ("time", Step::Time),
+    ];
     println!(rt; "Without false sets, under a trial of arc 0 with -100 ticks:")?;
-    let mut tables = blank_tables::<Ticks>(rt.alloc(), MOST_LINES)?;
-    let steps = [
-        load_step(GraphFile::Arcs, files.arcs),
-        load_step(GraphFile::Bounds, files.bounds),
-        Step::Act(Act::Open {
-            arc: 0,
-            ticks: -100,
-        }),
-        Step::Time,
-        Step::Act(Act::End),
-    ];
-    let names = [
-        "load arcs.txt",
-        "load bounds.txt",
-        "trial",
-        "time",
-        "its end",
-    ];
-    let mut replies = [StepReply::Time(Ok(0)); 5];
-    if run_shown(rt, &steps, &names, delays, &mut tables, &mut replies)?.is_none() {
-        return Ok(false);
-    }
-    show_slacks(rt, &tables)?;
-    Ok(true)
-}
-
-fn after_trial(rt: &HostRuntime, files: BlockFiles<'_>, delays: &Delays) -> io::Result<bool> {
+    let report = run_shown::<Ticks>(rt, &steps[..5], delays)?;
+    report.show_slacks()?;
     println!(rt; "The same, and timed again after the trial's end:")?;
-    let mut tables = blank_tables::<Ticks>(rt.alloc(), MOST_LINES)?;
-    let steps = [
-        load_step(GraphFile::Arcs, files.arcs),
-        load_step(GraphFile::Bounds, files.bounds),
-        Step::Act(Act::Open {
-            arc: 0,
-            ticks: -100,
-        }),
-        Step::Time,
-        Step::Act(Act::End),
-        Step::Time,
-    ];
-    let names = [
-        "load arcs.txt",
-        "load bounds.txt",
-        "trial",
-        "time",
-        "its end",
-        "time",
-    ];
-    let mut replies = [StepReply::Time(Ok(0)); 6];
-    if run_shown(rt, &steps, &names, delays, &mut tables, &mut replies)?.is_none() {
-        return Ok(false);
-    }
-    show_slacks(rt, &tables)?;
-    Ok(true)
+    let report = run_shown::<Ticks>(rt, &steps, delays)?;
+    report.show_slacks()?;
+    Ok(())
 }
 
 // A false-set file that lost its end line is refused, and the block is timed as if it had not been there.
-fn with_cut_file(rt: &HostRuntime, files: BlockFiles<'_>, delays: &Delays) -> io::Result<bool> {
+fn with_cut_file(rt: &HostRuntime, files: BlockFiles<'_>, delays: &Delays) -> Result<(), Failure> {
     println!(rt; "With a false-set file that was cut before its end line:")?;
-    let mut tables = blank_tables::<Ticks>(rt.alloc(), MOST_LINES)?;
+    let cut = b"set,from,to\n0,1,4\n";
     let steps = [
-        load_step(GraphFile::Arcs, files.arcs),
-        load_step(GraphFile::Bounds, files.bounds),
-        load_step(GraphFile::FalseSets, b"set,from,to\n0,1,4\n"),
-        Step::Time,
+        ("load arcs.txt", load_step(GraphFile::Arcs, files.arcs)),
+        (
+            "load bounds.txt",
+            load_step(GraphFile::Bounds, files.bounds),
+        ),
+        ("load cut.txt", load_step(GraphFile::FalseSets, cut)),
+        ("time", Step::Time),
     ];
-    let names = ["load arcs.txt", "load bounds.txt", "load cut.txt", "time"];
-    let mut replies = [StepReply::Time(Ok(0)); 4];
-    let Some(graph) = run_shown(rt, &steps, &names, delays, &mut tables, &mut replies)? else {
-        return Ok(false);
-    };
-    tell_worst(rt, &tables)?;
-    show_worst(rt, &graph, delays, &mut tables)
+    let report = run_shown::<Ticks>(rt, &steps, delays)?;
+    report.tell_worst()?;
+    report.show_paths(Shown::Worst)
 }
 
-// Answers whether all went as it should.
-pub fn show_block(rt: &HostRuntime, files: BlockFiles<'_>) -> io::Result<bool> {
+pub fn show_block(rt: &HostRuntime, files: BlockFiles<'_>) -> Result<(), Failure> {
     println!(rt; "Timing: two selectors, one behind the other, that always choose the same way")?;
     let mut delays = Delays::none(rt.alloc())?;
     if let Err(refusal) = load_delays(files.delays, delays.rows.as_mut_slice()) {
-        println!(rt; "load delays.txt: refused, {refusal}")?;
-        return Ok(false);
+        let path = String::from_str(rt.alloc(), "delays.txt")?;
+        return Err(Failure::FileRefused { path, refusal });
     }
     println!(rt; "load delays.txt: done")?;
-    let plain = without_sets(rt, files, &delays)?;
+    without_sets(rt, files, &delays)?;
     println!(rt; "With the false set from node 1 to node 4, by ticks:")?;
-    let sets = with_sets::<Ticks>(rt, files, &delays, 6)?;
-    let trial = under_trial(rt, files, &delays)?;
-    let after = after_trial(rt, files, &delays)?;
+    with_sets::<Ticks>(rt, files, &delays, 6)?;
+    with_trial(rt, files, &delays)?;
     println!(rt; "With the false set, by early ticks:")?;
-    let early = with_sets::<Early<Ticks>>(rt, files, &delays, 6)?;
-    let cut = with_cut_file(rt, files, &delays)?;
-    Ok(plain && sets && trial && after && early && cut)
+    with_sets::<Early<Ticks>>(rt, files, &delays, 6)?;
+    with_cut_file(rt, files, &delays)
 }

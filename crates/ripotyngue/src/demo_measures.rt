@@ -1,12 +1,15 @@
 // What measures answer, step by step.
-use crate::rows::row_text;
+use crate::rows::commas;
 use measure::{Early, Measure, StagedTicks, Ticks};
 use std::alloc::{AllocError, Global};
 use std::io;
 
 fn optional_text<M: Measure>(heap: Global, value: Option<M>) -> Result<String, AllocError> {
     match value {
-        Some(row) => row_text(heap, row),
+        Some(row) => {
+            let row = commas(row);
+            format!(in heap; "({row})")
+        }
         None => format!(in heap; "out of range"),
     }
 }
@@ -29,11 +32,11 @@ fn show_order<M: Measure>(rt: &HostRuntime, name: &str) -> io::Result<()> {
     let Some(twice) = three.sum(three) else {
         return Ok(());
     };
-    let two_arcs = row_text(rt.alloc(), twice)?;
-    let one_arc = row_text(rt.alloc(), six)?;
+    let two_arcs = commas(twice);
+    let one_arc = commas(six);
     let first = twice.not_after(six);
     let second = six.not_after(twice);
-    println!(rt; "{name}: {two_arcs} not after {one_arc}: {first}, and the other way: {second}")
+    println!(rt; "{name}: ({two_arcs}) not after ({one_arc}): {first}, and the other way: {second}")
 }
 
 pub fn show_measures(rt: &HostRuntime) -> io::Result<()> {

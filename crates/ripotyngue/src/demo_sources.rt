@@ -39,19 +39,13 @@ fn load_row(intrinsic: i32, slope: i32, load: u16) -> LoadRow {
 
 // Row 0 is loaded twice, row 5 not at all, and row 4 is written past the range of a tick count.
 fn loaded_table(rt: &HostRuntime) -> io::Result<[AnnotatedRow; 1024]> {
-    let mut rows = [AnnotatedRow {
-        marked: false,
-        ticks: 0,
-    }; 1024];
+    let mut rows = [AnnotatedRow::BLANK; 1024];
     let file = b"arc,ticks\n0,200\n1,-1\n2,1\n3,700000\n32,90\n0,3\nend,6\n";
     match load_delays(file, &mut rows) {
         Ok(()) => println!(rt; "delay file: loaded")?,
         Err(refusal) => println!(rt; "delay file: refused, {refusal}")?,
     }
-    rows[4] = AnnotatedRow {
-        marked: true,
-        ticks: 1_000_001,
-    };
+    rows[4] = AnnotatedRow::new(1_000_001);
     Ok(rows)
 }
 

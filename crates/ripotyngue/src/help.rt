@@ -58,7 +58,6 @@ The side is s for a start or e for an end. Numbers have one to seven digits, a m
 below zero, no leading zero and no -0. A file has at most 60000 bytes.
 ";
 
-pub fn help(rt: &HostRuntime) -> io::Result<bool> {
-    rt.print(TEXT)?;
-    Ok(true)
+pub fn help(rt: &HostRuntime) -> io::Result<()> {
+    rt.print(TEXT)
 }

@@ -5,54 +5,50 @@ mod answers;
 mod check;
 mod choices;
 mod command;
+mod delays;
 mod demo;
 mod demo_block;
 mod demo_measures;
 mod demo_sources;
+mod failure;
 mod files;
 mod help;
 mod input;
+mod limits;
 mod options;
 mod report;
 mod rows;
 mod running;
 mod shell;
-mod tables;
 mod time;
 mod words;
 
+use failure::Failure;
+use std::env;
 use std::process::ExitCode;
-use std::{env, io};
 
-// Runs the command, and answers whether all went well.
-fn run(rt: &HostRuntime) -> io::Result<bool> {
+// Runs the command. A failure is still to be told; what else ends in the status of one has been said.
+fn run(rt: &HostRuntime) -> Result<ExitCode, Failure> {
     let mut words = env::args(rt)?;
     let _ = words.next();
-    let Some(command) = words.next() else {
-        rt.eprintln("ripotyngue: no command; try: ripotyngue help")?;
-        return Ok(false);
-    };
+    let command = words.next().ok_or(Failure::NoCommand)?;
     match command.as_str() {
-        "check" => check::check(rt, &mut words),
-        "demo" => demo::demo(rt),
-        "demo-block" => demo::demo_block(rt),
-        "time" => time::time_command(rt, &mut words),
-        "shell" => shell::shell(rt),
-        "help" => help::help(rt),
-        other => {
-            eprintln!(rt; "ripotyngue: unknown command '{other}'; try: ripotyngue help")?;
-            Ok(false)
-        }
+        "check" => return check::check(rt, words),
+        "demo" => return demo::demo(rt),
+        "demo-block" => demo::demo_block(rt)?,
+        "time" => time::time_command(rt, words)?,
+        "shell" => shell::shell(rt)?,
+        "help" => help::help(rt)?,
+        _ => return Err(Failure::UnknownCommand(command)),
     }
+    Ok(ExitCode::SUCCESS)
 }
 
-// Where the run did not go well, what went wrong has been said, and the status alone is left to tell.
 fn main(rt: HostRuntime) -> ExitCode {
     match run(&rt) {
-        Ok(true) => ExitCode::SUCCESS,
-        Ok(false) => ExitCode::FAILURE,
-        Err(error) => {
-            let _ = eprintln!(rt; "ripotyngue: {error}");
+        Ok(status) => status,
+        Err(failure) => {
+            let _ = eprintln!(rt; "ripotyngue: {failure}");
             ExitCode::FAILURE
         }
     }

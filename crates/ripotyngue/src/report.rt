@@ -1,217 +1,156 @@
 // What a timing found, in words and tables.
-use crate::rows::{row_columns, row_text};
-use crate::tables::{Delays, Tables, trace_node};
-use delay::{Margin, Source};
-use graph::{LiveArc, TimingGraph};
+use crate::choices::Shown;
+use crate::delays::Delays;
+use crate::failure::Failure;
+use crate::limits::LONGEST_PATH;
+use crate::rows::{Columns, commas};
+use graph::TimingGraph;
 use measure::Measure;
 use sheet::TraceRefusal;
 use std::io;
-use timing::TimeRefusal;
+use tables::Tables;
 
-pub fn show_time_refusal(rt: &HostRuntime, refusal: TimeRefusal) -> io::Result<()> {
-    match refusal {
-        TimeRefusal::SourceFault(fault) => {
-            let cause = fault.cause.number();
-            let arc = fault.arc;
-            let level = fault.level;
-            eprintln!(rt;
-                "ripotyngue: refused, number 12: no delay for arc {arc} (cause {cause}, level {level})"
-            )
-        }
-        TimeRefusal::OutOfRange(arc) => eprintln!(rt;
-            "ripotyngue: refused, number 13: the delay and trim of arc {arc} are out of range"
-        ),
-        TimeRefusal::WrongLength => {
-            eprintln!(rt; "ripotyngue: refused, number 14: a table has the wrong length")
-        }
-        TimeRefusal::TooFewLines => eprintln!(rt;
-            "ripotyngue: refused, number 15: the sheet has more than 4096 lines"
-        ),
-    }
+// A graph, the delays that it was timed by, and the tables of its timing.
+#[derive(Drop)]
+pub struct Report<'a, M> {
+    pub rt: &'a HostRuntime,
+    pub graph: TimingGraph,
+    pub delays: &'a Delays,
+    pub tables: Tables<M>,
 }
 
-fn show_trace_refusal(rt: &HostRuntime, node: i32, refusal: TraceRefusal) -> io::Result<()> {
-    let number = refusal.number();
-    let words = match refusal {
-        TraceRefusal::WrongLength => "a table has the wrong length",
-        TraceRefusal::OutOfRange => "there is no such node",
-        TraceRefusal::BrokenLink => "a link of the sheet cannot be followed",
-        TraceRefusal::ShortList => "the list for the arcs is too short",
-    };
-    eprintln!(rt; "ripotyngue: path of node {node}: refused, number {number}: {words}")
-}
-
-// The slack of each node that has one.
-pub fn show_slacks<M: Measure>(rt: &HostRuntime, tables: &Tables<M>) -> io::Result<()> {
-    if M::places() > 1 {
-        println!(rt; "slack: node    ticks  stages")?;
-    } else {
-        println!(rt; "slack: node    ticks")?;
-    }
-    for (node, entry) in tables.nodes.iter().enumerate() {
-        if !entry.timed {
-            continue;
+impl<M: Measure> Report<'_, M> {
+    // The slack of each node that has one.
+    pub fn show_slacks(&self) -> io::Result<()> {
+        if M::places() > 1 {
+            println!(self.rt; "slack: node    ticks  stages")?;
+        } else {
+            println!(self.rt; "slack: node    ticks")?;
         }
-        let Some(slack) = tables.slacks.get(node) else {
-            break;
-        };
-        let columns = row_columns(rt.alloc(), *slack)?;
-        println!(rt; "       {node:>4}{columns}")?;
-    }
-    Ok(())
-}
-
-// The node of the least slack, the lowest of equals.
-pub fn worst_node<M: Measure>(tables: &Tables<M>) -> Option<i32> {
-    let mut worst = None;
-    for (node, entry) in tables.nodes.iter().enumerate() {
-        if !entry.timed {
-            continue;
+        for node in 0..=255 {
+            if let Some(slack) = self.tables.slack(node) {
+                let columns = Columns(slack);
+                println!(self.rt; "       {node:>4}{columns}")?;
+            }
         }
-        let slack = *tables.slacks.get(node)?;
-        let node = i32::try_from(node).ok()?;
-        worst = match worst {
-            Some((kept, least)) => if slack.not_after(least) && !least.not_after(slack) {
-                Some((node, slack))
+        Ok(())
+    }
+
+    // The node of the least slack, the lowest of equals.
+    fn worst_node(&self) -> Option<u8> {
+        let (node, _) = (0..=255)
+            .filter_map(|node| Some((node, self.tables.slack(node)?)))
+            .reduce(|worst, next| if worst.1.not_after(next.1) {
+                worst
             } else {
-                Some((kept, least))
-            },
-            None => Some((node, slack)),
+                next
+            })?;
+        Some(node)
+    }
+
+    // Tells the node of the least slack.
+    pub fn tell_worst(&self) -> io::Result<()> {
+        match self.worst_node() {
+            Some(node) => println!(self.rt; "worst: node {node}"),
+            None => println!(self.rt;
+                "no node has a slack: no open path leads from a start to an end"
+            ),
+        }
+    }
+
+    // The node behind an arc, the row of the arc's delay and trim, and the arrival there.
+    fn step(&self, arc: u16, arrival: M) -> Option<(u8, M, M)> {
+        let live = self.graph.arc(arc)?;
+        let row = M::arc(self.delays.ticks(arc)?.checked_add(live.trim)?)?;
+        Some((live.to, row, arrival.sum(row)?))
+    }
+
+    // The nodes of a path of these arcs, from the first to the last; `node` where there is no arc.
+    fn path_ends(&self, arcs: &[u16], node: u8) -> (u8, u8) {
+        let graph = &self.graph;
+        let ends = |first: &u16, last: &u16| Some((graph.arc(*first)?.from, graph.arc(*last)?.to));
+        match arcs {
+            [] => (node, node),
+            [arc] => ends(arc, arc).unwrap_or((node, node)),
+            [first, .., last] => ends(first, last).unwrap_or((node, node)),
+        }
+    }
+
+    fn show_arcs(&self, arcs: &[u16], node: u8) -> io::Result<()> {
+        let (from, to) = self.path_ends(arcs, node);
+        let Some(mut arrival) = self.graph.start(from).and_then(|ticks| M::time(ticks)) else {
+            return Ok(());
         };
-    }
-    match worst {
-        Some((node, _)) => Some(node),
-        None => None,
-    }
-}
-
-// The row of an arc: its delay and its trim.
-fn arc_row<M: Measure>(delays: &Delays, arc: u16, live: LiveArc) -> Option<M> {
-    let mut table = delays.table();
-    let ticks = match delays.permille {
-        Some(permille) => Margin::new(table, permille).delay(arc),
-        None => table.delay(arc),
-    };
-    M::arc(ticks.ok()?.checked_add(live.trim)?)
-}
-
-// One step of a path; answers the arrival behind it.
-fn show_step<M: Measure>(
-    rt: &HostRuntime,
-    graph: &TimingGraph,
-    delays: &Delays,
-    arc: u16,
-    arrival: M,
-) -> io::Result<M> {
-    let Some(live) = graph.arc(arc) else {
-        return Ok(arrival);
-    };
-    let Some(row) = arc_row::<M>(delays, arc, live) else {
-        return Ok(arrival);
-    };
-    let Some(next) = arrival.sum(row) else {
-        return Ok(arrival);
-    };
-    let to = live.to;
-    let row = row_text(rt.alloc(), row)?;
-    let sum = row_text(rt.alloc(), next)?;
-    println!(rt; "  arc {arc} to node {to}: delay {row}, arrival {sum}")?;
-    Ok(next)
-}
-
-fn start_row<M: Measure>(graph: &TimingGraph, node: u8) -> Option<M> {
-    M::time(graph.start(node)?)
-}
-
-fn show_end<M: Measure>(rt: &HostRuntime, graph: &TimingGraph, node: u8) -> io::Result<()> {
-    let Some(ticks) = graph.end(node) else {
-        return Ok(());
-    };
-    let Some(row) = M::time(ticks) else {
-        return Ok(());
-    };
-    let end = row_text(rt.alloc(), row)?;
-    println!(rt; "  end at node {node}: required {end}")
-}
-
-// The nodes of a path of these arcs, from the first to the last; `node` where there is no arc.
-fn path_ends(graph: &TimingGraph, arcs: &[u16], node: u8) -> (u8, u8) {
-    let (Some(first), Some(last)) = (arcs.first(), arcs.last()) else {
-        return (node, node);
-    };
-    match (graph.arc(*first), graph.arc(*last)) {
-        (Some(a), Some(b)) => (a.from, b.to),
-        _ => (node, node),
-    }
-}
-
-fn show_arcs<M: Measure>(
-    rt: &HostRuntime,
-    graph: &TimingGraph,
-    delays: &Delays,
-    arcs: &[u16],
-    node: u8,
-) -> io::Result<()> {
-    let (from, to) = path_ends(graph, arcs, node);
-    let Some(start) = start_row::<M>(graph, from) else {
-        return Ok(());
-    };
-    let text = row_text(rt.alloc(), start)?;
-    println!(rt; "  start at node {from}: arrival {text}")?;
-    let mut arrival = start;
-    for arc in arcs {
-        arrival = show_step(rt, graph, delays, *arc, arrival)?;
-    }
-    show_end::<M>(rt, graph, to)
-}
-
-// The path that is shown for a node; answers whether the trace was not refused.
-pub fn show_path<M: Measure>(
-    rt: &HostRuntime,
-    graph: &TimingGraph,
-    delays: &Delays,
-    tables: &mut Tables<M>,
-    node: i32,
-) -> io::Result<bool> {
-    let count = match trace_node(tables, node) {
-        Ok(Some(count)) => count,
-        Ok(None) => {
-            println!(rt; "node {node} has no slack, so there is no path to show")?;
-            return Ok(true);
+        let start = commas(arrival);
+        println!(self.rt; "  start at node {from}: arrival ({start})")?;
+        for arc in arcs {
+            if let Some((to, row, next)) = self.step(*arc, arrival) {
+                let row = commas(row);
+                let sum = commas(next);
+                println!(self.rt; "  arc {arc} to node {to}: delay ({row}), arrival ({sum})")?;
+                arrival = next;
+            }
         }
-        Err(refusal) => {
-            show_trace_refusal(rt, node, refusal)?;
-            return Ok(false);
+        if let Some(end) = self.graph.end(to).and_then(|ticks| M::time(ticks)) {
+            let end = commas(end);
+            println!(self.rt; "  end at node {to}: required ({end})")?;
         }
-    };
-    let (Ok(index), Some(arcs)) = (u8::try_from(node), tables.list.as_slice().get(0..count)) else {
-        return Ok(false);
-    };
-    if let Some(slack) = tables.slacks.get(index as usize) {
-        let slack = row_text(rt.alloc(), *slack)?;
-        println!(rt; "path through node {node}, slack {slack}:")?;
+        Ok(())
     }
-    show_arcs::<M>(rt, graph, delays, arcs, index)?;
-    Ok(true)
-}
 
-// Tells the node of the least slack.
-pub fn tell_worst<M: Measure>(rt: &HostRuntime, tables: &Tables<M>) -> io::Result<()> {
-    match worst_node(tables) {
-        Some(node) => println!(rt; "worst: node {node}"),
-        None => println!(rt; "no node has a slack: no open path leads from a start to an end"),
+    // The node and the arcs of its path, where it has a slack.
+    fn path<'b>(
+        &self,
+        node: i32,
+        list: &'b mut [u16],
+    ) -> Result<Option<(u8, &'b [u16])>, TraceRefusal> {
+        let Some(count) = self.tables.trace(node, list)? else {
+            return Ok(None);
+        };
+        let node = u8::try_from(node).map_err(|_| TraceRefusal::OutOfRange)?;
+        let arcs = list.get(..count).ok_or(TraceRefusal::ShortList)?;
+        Ok(Some((node, arcs)))
     }
-}
 
-// The path of the node of the least slack.
-pub fn show_worst<M: Measure>(
-    rt: &HostRuntime,
-    graph: &TimingGraph,
-    delays: &Delays,
-    tables: &mut Tables<M>,
-) -> io::Result<bool> {
-    match worst_node(tables) {
-        Some(node) => show_path(rt, graph, delays, tables, node),
-        None => Ok(true),
+    // The path that is shown for a node.
+    fn show_path(&self, node: i32) -> Result<(), Failure> {
+        let mut list = [0; LONGEST_PATH];
+        let traced = self.path(node, &mut list);
+        let Some((index, arcs)) = traced.map_err(|refusal| Failure::TraceRefused { node, refusal })?
+        else {
+            println!(self.rt; "node {node} has no slack, so there is no path to show")?;
+            return Ok(());
+        };
+        if let Some(slack) = self.tables.slack(index) {
+            let slack = commas(slack);
+            println!(self.rt; "path through node {node}, slack ({slack}):")?;
+        }
+        self.show_arcs(arcs, index)?;
+        Ok(())
+    }
+
+    // The path of the node of the least slack.
+    fn show_worst(&self) -> Result<(), Failure> {
+        match self.worst_node() {
+            Some(node) => self.show_path(i32::from(node)),
+            None => Ok(()),
+        }
+    }
+
+    fn show_all(&self) -> Result<(), Failure> {
+        for node in 0..=255 {
+            if self.tables.slack(node).is_some() {
+                self.show_path(i32::from(node))?;
+            }
+        }
+        Ok(())
+    }
+
+    pub fn show_paths(&self, shown: Shown) -> Result<(), Failure> {
+        match shown {
+            Shown::Worst => self.show_worst(),
+            Shown::All => self.show_all(),
+            Shown::Node(node) => self.show_path(node),
+        }
     }
 }

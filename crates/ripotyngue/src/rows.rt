@@ -1,33 +1,50 @@
 // Rows as text.
 use measure::Measure;
-use std::alloc::{AllocError, Global};
+use std::fmt;
 
-// The places in brackets.
-pub fn row_text<M: Measure>(heap: Global, row: M) -> Result<String, AllocError> {
-    match (row.place(0), row.place(1), row.place(2)) {
-        (Some(a), Some(b), Some(c)) => format!(in heap; "({a}, {b}, {c})"),
-        (Some(a), Some(b), None) => format!(in heap; "({a}, {b})"),
-        (Some(a), None, _) => format!(in heap; "({a})"),
-        (None, _, _) => format!(in heap; "()"),
+// The places of a row, with some text between them.
+#[derive(Clone, Copy)]
+pub struct Joined<M> {
+    pub row: M,
+    pub by: &'static str,
+}
+
+impl<M: Measure> fmt::Display for Joined<M> {
+    fn fmt<W: fmt::Write>(&self, f: &mut fmt::Formatter<W>) -> fmt::Result {
+        let mut before = "";
+        for place in 0..M::places() {
+            if let Some(number) = self.row.place(place) {
+                write!(f, "{before}{number}")?;
+                before = self.by;
+            }
+        }
+        Ok(())
     }
 }
 
-// The places joined by commas.
-pub fn row_list<M: Measure>(heap: Global, row: M) -> Result<String, AllocError> {
-    match (row.place(0), row.place(1), row.place(2)) {
-        (Some(a), Some(b), Some(c)) => format!(in heap; "{a},{b},{c}"),
-        (Some(a), Some(b), None) => format!(in heap; "{a},{b}"),
-        (Some(a), None, _) => format!(in heap; "{a}"),
-        (None, _, _) => format!(in heap; ""),
+// The places of a row below the head of a table.
+#[derive(Clone, Copy)]
+pub struct Columns<M>(pub M);
+
+impl<M: Measure> fmt::Display for Columns<M> {
+    fn fmt<W: fmt::Write>(&self, f: &mut fmt::Formatter<W>) -> fmt::Result {
+        let mut width = 9usize;
+        for place in 0..M::places() {
+            if let Some(number) = self.0.place(place) {
+                write!(f, "{number:>width$}")?;
+                width = 8;
+            }
+        }
+        Ok(())
     }
 }
 
-// The places one below the other's in a table.
-pub fn row_columns<M: Measure>(heap: Global, row: M) -> Result<String, AllocError> {
-    match (row.place(0), row.place(1), row.place(2)) {
-        (Some(a), Some(b), Some(c)) => format!(in heap; "{a:>9}{b:>8}{c:>8}"),
-        (Some(a), Some(b), None) => format!(in heap; "{a:>9}{b:>8}"),
-        (Some(a), None, _) => format!(in heap; "{a:>9}"),
-        (None, _, _) => format!(in heap; ""),
-    }
+// A row as a report shows it.
+pub fn commas<M: Measure>(row: M) -> Joined<M> {
+    Joined { row, by: ", " }
+}
+
+// A row as the shell answers it.
+pub fn list<M: Measure>(row: M) -> Joined<M> {
+    Joined { row, by: "," }
 }

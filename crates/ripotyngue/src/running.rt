@@ -1,39 +1,39 @@
-// Runs a list of steps by the delays, under their margin where there is one.
-use crate::tables::{Delays, Tables};
-use delay::{Margin, Source};
-use graph::TimingGraph;
+// Runs a list of steps on a new graph and new tables.
+use crate::delays::Delays;
+use crate::failure::Failure;
+use crate::limits::{LONGEST_PATH, MOST_LINES};
+use crate::report::Report;
 use history::{Step, StepReply, run};
-use ledger::Misuse;
 use measure::Measure;
+use sheet::TablesMut;
+use tables::Tables;
 
-fn run_by<M: Measure, S: Source>(
+// The steps time by the delays, under their margin.
+pub fn run_steps<'a, M: Measure>(
+    rt: &'a HostRuntime,
     steps: &[Step<'_>],
-    source: &mut S,
-    tables: &mut Tables<M>,
+    delays: &'a Delays,
     replies: &mut [StepReply],
-) -> Result<TimingGraph, Misuse> {
-    run(
+) -> Result<Report<'a, M>, Failure> {
+    let mut tables = Tables::<M>::blank(rt.alloc(), MOST_LINES)?;
+    let mut list = [0; LONGEST_PATH];
+    let ran = run(
         steps,
-        source,
-        tables.lines.as_mut_slice(),
-        tables.arrivals.as_mut_slice(),
-        tables.required.as_mut_slice(),
-        tables.nodes.as_mut_slice(),
-        tables.slacks.as_mut_slice(),
-        tables.list.as_mut_slice(),
+        &mut delays.source(),
+        &mut TablesMut {
+            lines: tables.lines.as_mut_slice(),
+            arrivals: tables.arrivals.as_mut_slice(),
+            required: tables.required.as_mut_slice(),
+            nodes: tables.nodes.as_mut_slice(),
+            slacks: tables.slacks.as_mut_slice(),
+        },
+        &mut list,
         replies,
-    )
-}
-
-pub fn run_steps<M: Measure>(
-    steps: &[Step<'_>],
-    delays: &Delays,
-    tables: &mut Tables<M>,
-    replies: &mut [StepReply],
-) -> Result<TimingGraph, Misuse> {
-    let mut table = delays.table();
-    match delays.permille {
-        Some(permille) => run_by(steps, &mut Margin::new(table, permille), tables, replies),
-        None => run_by(steps, &mut table, tables, replies),
-    }
+    );
+    Ok(Report {
+        rt,
+        graph: ran.map_err(|_| Failure::Misfit)?,
+        delays,
+        tables,
+    })
 }

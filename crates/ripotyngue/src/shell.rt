@@ -3,19 +3,19 @@ use crate::answers::{
     answer_call, answer_error, answer_load, answer_ok, answer_refused, answer_sheet, answer_slacks,
     answer_time, answer_trace,
 };
-use crate::choices::{MeasureName, permille_of};
-use crate::command::{Command, parse};
+use crate::choices::{MeasureName, by_measure};
+use crate::command::{Command, NoCommand, parse};
+use crate::delays::Delays;
 use crate::input::read_file;
-use crate::tables::{Delays, MOST_LINES, Tables, blank_tables, time_graph, trace_node};
+use crate::limits::{LONGEST_PATH, MOST_LINES};
 use delay::load_delays;
-use graph::{GraphFile, TimingGraph};
+use graph::{GraphFile, Refusal, TimingGraph};
 use ledger::make;
 use measure::{Early, Measure, StagedTicks, Ticks};
 use reader::Kind;
 use std::io;
 use std::io::{BufRead, BufReader, Stdin};
-
-const OUT_OF_RANGE: u8 = 6;
+use tables::Tables;
 
 // What the shell holds beside the tables.
 #[derive(Drop)]
@@ -46,125 +46,119 @@ fn look<M: Measure>(
     delays: &Delays,
     tables: &mut Tables<M>,
     command: Command<'_>,
-    otherwise: &str,
+    otherwise: NoCommand,
 ) -> io::Result<()> {
     match command {
         Command::Pass => Ok(()),
-        Command::Time => answer_time(rt, time_graph(tables, graph, delays)),
+        Command::Time => answer_time(rt, delays.time(graph, tables)),
         Command::Sheet => answer_sheet(rt, tables),
         Command::Slacks => answer_slacks(rt, tables),
         Command::Trace { node } => {
-            let answer = trace_node(tables, node);
-            answer_trace(rt, tables.list.as_slice(), answer)
+            let mut list = [0; LONGEST_PATH];
+            let answer = tables.trace(node, &mut list);
+            answer_trace(rt, &list, answer)
         }
-        Command::Wrong(words) => answer_error(rt, words),
         _ => answer_error(rt, otherwise),
     }
 }
 
-// Reads on while a trial is open, and answers whether there is more input.
+// Reads on while a trial is open, and answers why the shell stops, if it does.
 fn under_trial<M: Measure>(
     rt: &HostRuntime,
     input: &mut BufReader<Stdin>,
-    graph: &mut TimingGraph,
-    delays: &Delays,
+    held: &mut Held,
     tables: &mut Tables<M>,
     arc: i32,
     ticks: i32,
-) -> io::Result<bool> {
-    let trial = graph.trial(arc, ticks);
+) -> io::Result<Option<Stop>> {
+    let trial = held.graph.trial(arc, ticks);
     match trial.refusal() {
         None => answer_ok(rt)?,
         Some(refusal) => answer_refused(rt, refusal.number())?,
     }
     for _ in 0..u64::MAX {
         let Some(line) = next_line(rt, input)? else {
-            return Ok(false);
+            break;
         };
-        let command = parse(line.as_slice());
-        if let Command::EndTrial = command {
-            return Ok(true);
+        match parse(line.as_slice()) {
+            Ok(Command::EndTrial) => {
+                answer_ok(rt)?;
+                return Ok(None);
+            }
+            Ok(command) => look(
+                rt,
+                trial.graph(),
+                &held.delays,
+                tables,
+                command,
+                NoCommand::InTrial,
+            )?,
+            Err(error) => answer_error(rt, error)?,
         }
-        look(
-            rt,
-            trial.graph(),
-            delays,
-            tables,
-            command,
-            "while a trial is open only time, sheet, slacks, trace and endtrial are served",
-        )?;
     }
-    Ok(false)
+    Ok(Some(Stop::EndOfInput))
 }
 
-fn load_bytes(
-    rt: &HostRuntime,
-    graph: &mut TimingGraph,
-    delays: &mut Delays,
-    kind: Kind,
-    bytes: &[u8],
-) -> io::Result<()> {
+fn load_bytes(rt: &HostRuntime, held: &mut Held, kind: Kind, bytes: &[u8]) -> io::Result<()> {
     let answer = match kind {
-        Kind::Arcs => graph.load(GraphFile::Arcs, bytes),
-        Kind::Bounds => graph.load(GraphFile::Bounds, bytes),
-        Kind::FalseSets => graph.load(GraphFile::FalseSets, bytes),
-        Kind::Delays => load_delays(bytes, delays.rows.as_mut_slice()),
+        Kind::Arcs => held.graph.load(GraphFile::Arcs, bytes),
+        Kind::Bounds => held.graph.load(GraphFile::Bounds, bytes),
+        Kind::FalseSets => held.graph.load(GraphFile::FalseSets, bytes),
+        Kind::Delays => load_delays(bytes, held.delays.rows.as_mut_slice()),
     };
     answer_load(rt, answer)
 }
 
 fn load_file(rt: &HostRuntime, held: &mut Held, kind: Kind, path: &str) -> io::Result<()> {
     match read_file(rt, path) {
-        Ok(bytes) => load_bytes(
-            rt,
-            &mut held.graph,
-            &mut held.delays,
-            kind,
-            bytes.as_slice(),
-        ),
+        Ok(bytes) => load_bytes(rt, held, kind, bytes.as_slice()),
         Err(error) => println!(rt; "error: {path}: cannot be read: {error}"),
     }
 }
 
-fn set_margin(rt: &HostRuntime, delays: &mut Delays, margin: Option<i32>) -> io::Result<()> {
-    let Some(number) = margin else {
-        delays.permille = None;
-        return answer_ok(rt);
+fn answer_out_of_range(rt: &HostRuntime) -> io::Result<()> {
+    answer_refused(rt, Refusal::OutOfRange.number())
+}
+
+fn set_margin(rt: &HostRuntime, delays: &mut Delays, number: i32) -> io::Result<()> {
+    let Ok(permille) = u16::try_from(number) else {
+        return answer_out_of_range(rt);
     };
-    let Some(permille) = permille_of(number) else {
-        return answer_refused(rt, OUT_OF_RANGE);
-    };
-    delays.permille = Some(permille);
+    delays.set_margin(Some(permille));
     answer_ok(rt)
 }
 
-// Sets the length of the line tables, and answers whether it did. Tables that are too long are one line too long.
-fn set_length(rt: &HostRuntime, held: &mut Held, lines: i32) -> io::Result<bool> {
+// Sets the length of the line tables. Tables that are too long are one line too long.
+fn set_length(rt: &HostRuntime, held: &mut Held, lines: i32) -> io::Result<Option<Stop>> {
     let Ok(length) = usize::try_from(lines) else {
-        answer_refused(rt, OUT_OF_RANGE)?;
-        return Ok(false);
+        answer_out_of_range(rt)?;
+        return Ok(None);
     };
     held.length = length.min(MOST_LINES + 1);
     answer_ok(rt)?;
-    Ok(true)
+    Ok(Some(Stop::NewTables))
 }
 
-// A command that is served while no trial is open, but for a trial. It answers whether the tables are to be new.
+// A command that is served while no trial is open, but for a trial. It answers why the shell stops, if it does.
 fn serve_one<M: Measure>(
     rt: &HostRuntime,
     held: &mut Held,
     tables: &mut Tables<M>,
     command: Command<'_>,
-) -> io::Result<bool> {
+) -> io::Result<Option<Stop>> {
     match command {
         Command::Make(call) => answer_call(rt, make(&mut held.graph, call))?,
         Command::Load { kind, path } => load_file(rt, held, kind, path)?,
-        Command::Margin(margin) => set_margin(rt, &mut held.delays, margin)?,
+        Command::Margin(Some(number)) => set_margin(rt, &mut held.delays, number)?,
+        Command::Margin(None) => {
+            held.delays.set_margin(None);
+            answer_ok(rt)?;
+        }
         Command::Lines(lines) => return set_length(rt, held, lines),
         Command::Measure(measure) => {
             held.measure = measure;
             answer_ok(rt)?;
-            return Ok(true);
+            return Ok(Some(Stop::NewTables));
         }
         other => look(
             rt,
@@ -172,10 +166,10 @@ fn serve_one<M: Measure>(
             &held.delays,
             tables,
             other,
-            "no trial is open",
+            NoCommand::NoTrial,
         )?,
     }
-    Ok(false)
+    Ok(None)
 }
 
 // Serves commands with one set of tables.
@@ -184,46 +178,29 @@ fn serve<M: Measure>(
     input: &mut BufReader<Stdin>,
     held: &mut Held,
 ) -> io::Result<Stop> {
-    let mut tables = blank_tables::<M>(rt.alloc(), held.length)?;
+    let mut tables = Tables::<M>::blank(rt.alloc(), held.length)?;
     for _ in 0..u64::MAX {
         let Some(line) = next_line(rt, input)? else {
-            return Ok(Stop::EndOfInput);
+            break;
         };
-        let command = parse(line.as_slice());
-        if let Command::Trial { arc, ticks } = command {
-            if !under_trial(
-                rt,
-                input,
-                &mut held.graph,
-                &held.delays,
-                &mut tables,
-                arc,
-                ticks,
-            )? {
-                return Ok(Stop::EndOfInput);
+        let stop = match parse(line.as_slice()) {
+            Ok(Command::Trial { arc, ticks }) => {
+                under_trial(rt, input, held, &mut tables, arc, ticks)?
             }
-            answer_ok(rt)?;
-        } else if serve_one(rt, held, &mut tables, command)? {
-            return Ok(Stop::NewTables);
+            Ok(command) => serve_one(rt, held, &mut tables, command)?,
+            Err(error) => {
+                answer_error(rt, error)?;
+                None
+            }
+        };
+        if let Some(stop) = stop {
+            return Ok(stop);
         }
     }
     Ok(Stop::EndOfInput)
 }
 
-fn serve_measure(
-    rt: &HostRuntime,
-    input: &mut BufReader<Stdin>,
-    held: &mut Held,
-) -> io::Result<Stop> {
-    match held.measure {
-        MeasureName::Ticks => serve::<Ticks>(rt, input, held),
-        MeasureName::Staged => serve::<StagedTicks>(rt, input, held),
-        MeasureName::Early => serve::<Early<Ticks>>(rt, input, held),
-        MeasureName::EarlyStaged => serve::<Early<StagedTicks>>(rt, input, held),
-    }
-}
-
-pub fn shell(rt: &HostRuntime) -> io::Result<bool> {
+pub fn shell(rt: &HostRuntime) -> io::Result<()> {
     let mut input = BufReader::new(rt.alloc(), rt.stdin())?;
     let mut held = Held {
         graph: TimingGraph::new(),
@@ -232,9 +209,9 @@ pub fn shell(rt: &HostRuntime) -> io::Result<bool> {
         length: MOST_LINES,
     };
     for _ in 0..u64::MAX {
-        if serve_measure(rt, &mut input, &mut held)? == Stop::EndOfInput {
+        if by_measure!(held.measure, serve(rt, &mut input, &mut held))? == Stop::EndOfInput {
             break;
         }
     }
-    Ok(true)
+    Ok(())
 }

@@ -1,84 +1,43 @@
 // The command `time`: times the block of some files, and shows slacks and paths.
-use crate::choices::MeasureName;
-use crate::files::{FileTexts, read_texts, show_files};
-use crate::options::{Options, Shown, read_options};
-use crate::report::{show_path, show_slacks, show_time_refusal, show_worst, tell_worst};
+use crate::choices::{MeasureName, Shown, by_measure};
+use crate::delays::Delays;
+use crate::failure::Failure;
+use crate::files::{FileText, FileTexts, show_files};
+use crate::options::{Name, Options, read_options};
+use crate::report::Report;
 use crate::running::run_steps;
-use crate::tables::{Delays, MOST_LINES, Tables, blank_tables};
 use delay::load_delays;
-use graph::{GraphFile, TimingGraph};
+use graph::GraphFile;
 use history::{Step, StepReply};
 use ledger::{Act, Call, Reply};
 use measure::{Early, Measure, StagedTicks, Ticks};
 use std::env::Args;
-use std::io;
 
 pub fn load_step(file: GraphFile, bytes: &[u8]) -> Step<'_> {
     Step::Act(Act::Make(Call::Load { file, bytes }))
 }
 
-// Tells of a refused file; answers whether it was accepted.
-fn accepted(rt: &HostRuntime, path: &str, reply: StepReply) -> io::Result<bool> {
-    if let StepReply::Act(Reply::FileRefused(refusal)) = reply {
-        eprintln!(rt; "ripotyngue: {path}: refused, {refusal}")?;
-        return Ok(false);
-    }
-    Ok(true)
-}
-
-fn show_all<M: Measure>(
-    rt: &HostRuntime,
-    graph: &TimingGraph,
-    delays: &Delays,
-    tables: &mut Tables<M>,
-) -> io::Result<bool> {
-    for node in 0..256usize {
-        let Some(entry) = tables.nodes.get(node) else {
-            break;
-        };
-        if entry.timed && !show_path(rt, graph, delays, tables, node as i32)? {
-            return Ok(false);
-        }
-    }
-    Ok(true)
-}
-
-fn show_paths<M: Measure>(
-    rt: &HostRuntime,
-    graph: &TimingGraph,
-    delays: &Delays,
-    tables: &mut Tables<M>,
-    shown: Shown,
-) -> io::Result<bool> {
-    match shown {
-        Shown::Worst => show_worst(rt, graph, delays, tables),
-        Shown::All => show_all(rt, graph, delays, tables),
-        Shown::Node(node) => show_path(rt, graph, delays, tables, node),
+fn accepted(file: &FileText, reply: StepReply) -> Result<(), Failure> {
+    match reply {
+        StepReply::Act(Reply::FileRefused(refusal)) => Err(file.refused(refusal)),
+        _ => Ok(()),
     }
 }
 
 // What the timing answered, and then what it found.
 fn show_timing<M: Measure>(
-    rt: &HostRuntime,
-    graph: &TimingGraph,
-    delays: &Delays,
-    tables: &mut Tables<M>,
+    report: &Report<'_, M>,
     reply: StepReply,
     shown: Shown,
-) -> io::Result<bool> {
-    match reply {
-        StepReply::Time(Ok(count)) => {
-            println!(rt; "timed: {count} lines")?;
-            show_slacks(rt, tables)?;
-            tell_worst(rt, tables)?;
-            show_paths(rt, graph, delays, tables, shown)
-        }
-        StepReply::Time(Err(refusal)) => {
-            show_time_refusal(rt, refusal)?;
-            Ok(false)
-        }
-        _ => Ok(false),
-    }
+) -> Result<(), Failure> {
+    let StepReply::Time(answer) = reply else {
+        return Err(Failure::Misfit);
+    };
+    let count = answer?;
+    println!(report.rt; "timed: {count} lines")?;
+    report.show_slacks()?;
+    report.tell_worst()?;
+    report.show_paths(shown)
 }
 
 // Loads the files and times their block, as one history.
@@ -87,8 +46,7 @@ fn time_texts<M: Measure>(
     texts: &FileTexts,
     delays: &Delays,
     shown: Shown,
-) -> io::Result<bool> {
-    let mut tables = blank_tables::<M>(rt.alloc(), MOST_LINES)?;
+) -> Result<(), Failure> {
     let steps = [
         load_step(GraphFile::Arcs, texts.arcs.bytes.as_slice()),
         load_step(GraphFile::Bounds, texts.bounds.bytes.as_slice()),
@@ -96,53 +54,51 @@ fn time_texts<M: Measure>(
         Step::Time,
     ];
     let mut replies = [StepReply::Time(Ok(0)); 4];
-    let Ok(graph) = run_steps(&steps, delays, &mut tables, &mut replies) else {
-        return Ok(false);
-    };
+    let report = run_steps::<M>(rt, &steps, delays, &mut replies)?;
     let [arcs, bounds, sets, timing] = replies;
-    if !accepted(rt, texts.arcs.path.as_str(), arcs)?
-        || !accepted(rt, texts.bounds.path.as_str(), bounds)?
-        || !accepted(rt, texts.false_sets.path.as_str(), sets)?
-    {
-        return Ok(false);
-    }
-    show_files(rt, texts, &graph, delays)?;
-    show_timing(rt, &graph, delays, &mut tables, timing, shown)
+    accepted(&texts.arcs, arcs)?;
+    accepted(&texts.bounds, bounds)?;
+    accepted(&texts.false_sets, sets)?;
+    show_files(rt, texts, &report.graph, delays)?;
+    show_timing(&report, timing, shown)
 }
 
-fn time_by(
+fn read_texts(
     rt: &HostRuntime,
-    measure: MeasureName,
-    texts: &FileTexts,
-    delays: &Delays,
-    shown: Shown,
-) -> io::Result<bool> {
-    match measure {
-        MeasureName::Ticks => time_texts::<Ticks>(rt, texts, delays, shown),
-        MeasureName::Staged => time_texts::<StagedTicks>(rt, texts, delays, shown),
-        MeasureName::Early => time_texts::<Early<Ticks>>(rt, texts, delays, shown),
-        MeasureName::EarlyStaged => time_texts::<Early<StagedTicks>>(rt, texts, delays, shown),
-    }
+    arcs: Option<String>,
+    delays: Option<String>,
+    bounds: Option<String>,
+    false_sets: Option<String>,
+) -> Result<FileTexts, Failure> {
+    Ok(FileTexts {
+        arcs: FileText::given(rt, Name::Arcs, arcs)?,
+        delays: FileText::given(rt, Name::Delays, delays)?,
+        bounds: FileText::given(rt, Name::Bounds, bounds)?,
+        false_sets: match false_sets {
+            Some(path) => FileText::read(rt, path)?,
+            None => FileText::no_sets(rt.alloc())?,
+        },
+    })
 }
 
-pub fn time_command(rt: &HostRuntime, words: &mut Args) -> io::Result<bool> {
-    let Some(options) = read_options(rt, words)? else {
-        return Ok(false);
-    };
-    let measure = options.measure.unwrap_or(MeasureName::Ticks);
-    let shown = options.shown.unwrap_or(Shown::Worst);
-    let permille = options.permille;
-    let Some(texts) = read_texts(rt, options)? else {
-        return Ok(false);
-    };
+pub fn time_command(rt: &HostRuntime, words: Args) -> Result<(), Failure> {
+    let Options {
+        arcs,
+        delays,
+        bounds,
+        false_sets,
+        measure,
+        permille,
+        shown,
+    } = read_options(words)?;
+    let measure = measure.unwrap_or(MeasureName::Ticks);
+    let shown = shown.unwrap_or(Shown::Worst);
+    let texts = read_texts(rt, arcs, delays, bounds, false_sets)?;
     let mut delays = Delays::none(rt.alloc())?;
-    delays.permille = permille;
-    if let Err(refusal) = load_delays(texts.delays.bytes.as_slice(), delays.rows.as_mut_slice()) {
-        let path = texts.delays.path.as_str();
-        eprintln!(rt; "ripotyngue: {path}: refused, {refusal}")?;
-        return Ok(false);
-    }
-    let words = measure.words();
-    println!(rt; "measure: {words}")?;
-    time_by(rt, measure, &texts, &delays, shown)
+    delays.set_margin(permille);
+    load_delays(texts.delays.bytes.as_slice(), delays.rows.as_mut_slice()).map_err(|refusal| texts
+        .delays
+        .refused(refusal))?;
+    println!(rt; "measure: {measure}")?;
+    by_measure!(measure, time_texts(rt, &texts, &delays, shown))
 }

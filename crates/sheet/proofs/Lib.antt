@@ -1,5 +1,4 @@
 pub mod Trailing
 pub mod Writing
-pub mod Outcomes
 pub mod Unaltered
 pub mod Traced

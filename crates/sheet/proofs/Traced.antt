@@ -1,5 +1,5 @@
 -- The written sheet of a block is traced as its definition says.
-use Rattle.std.proofs.Common.{◌≡◌, ℕ, ◌+◌, ◌-◌, ◌<◌, ◌≤◌, true, eqb, leb, List, [], ◌∷◌, ◌++◌, map, length, get_or, replicate, pos, Some, None, Option, sym, refl, ap, ◌∙◌, subst, ap₂, append-nil, arith}
+use Rattle.std.proofs.Common.{◌≡◌, ℕ, ◌+◌, ◌-◌, ◌<◌, ◌≤◌, Bool, true, cond, eqb, leb, List, [], ◌∷◌, ◌++◌, map, length, get_or, replicate, ℤ, nat_abs, pos, Some, None, Option, sym, refl, ap, ◌∙◌, subst, ap₂, append-nil, arith}
 use Rattle.std.specs.List.{range_with_len}
 use Rattle.std.proofs.lemmas.List.{length-append, length-map, length-replicate}
 use Rattle.std.proofs.lemmas.List.FromFn.{length-range_with_len, get_or-map-range_with_len}
@@ -19,13 +19,13 @@ use Rattle.paths.proofs.Slacks.{slack_line}
 use Rattle.paths.proofs.Tracing.{trace_shows_least_lem}
 use Rattle.paths.proofs.Joining.{given}
 use Rattle.sheet.specs.declared.line.Line.{Line}
+use Rattle.sheet.specs.declared.node.NodeEntry.{NodeEntry}
 use Rattle.sheet.specs.Blanks.{blank_line, blank_entry}
-use Rattle.sheet.specs.Tables.{sized, well_sized}
+use Rattle.sheet.specs.Tables.{Tables, sized, well_sized}
 use Rattle.sheet.specs.Written.{line_of, arrival_of, required_of, row_or, entry_of, by_nodes, written}
 use Rattle.sheet.specs.Trails.{back_arcs, fore_arcs}
-use Rattle.sheet.specs.Traces.{untraced, joined_at, entry_traced, trace_outcome}
+use Rattle.sheet.specs.Traces.{TraceOutcome, untraced, joined_at, entry_traced, trace_outcome}
 use Rattle.sheet.specs.Theorems.{traced_outcome, SheetsAreTraced}
-use Rattle.sheet.proofs.Outcomes.{by_entry}
 use Rattle.sheet.proofs.Unaltered.{backs_same, fores_same}
 
 -- ---- the tables' lengths, and a node's entry
@@ -54,6 +54,15 @@ module _ {R : Type 0} (m : Rows R) where
 
 node_in_range : (v : ℕ) → v < 256 → is_node (pos v) ≡ true
 node_in_range v h = grind (arith, ints)
+
+-- the trace in tables of the right lengths, of a node that there is
+module _ {R : Type 0} (t : Tables R) (node : ℤ) (size : ℕ) where
+  abbrev by_node : Bool → TraceOutcome
+  by_node x = cond x (entry_traced t.lines size (get_or t.nodes (nat_abs node) blank_entry)) (untraced size 6)
+
+  by_entry : well_sized t ≡ true → is_node node ≡ true → (e : NodeEntry) → e ≡ get_or t.nodes (nat_abs node) blank_entry
+      → trace_outcome t node size ≡ entry_traced t.lines size e
+  by_entry e f n is = ap (λ x. cond x (by_node (is_node node)) (untraced size 14)) e ∙ ap by_node f ∙ ap (entry_traced t.lines size) (sym is)
 
 -- ---- a path has at most 255 arcs
 module _ {R : Type 0} (b : RowBlock R) (rising : Rising b) where

@@ -1,5 +1,5 @@
 -- In the tables of a written sheet, the links lead where the sheet's links do.
-use Rattle.std.proofs.Common.{◌≡◌, ℕ, zero, suc, ◌+◌, ◌-◌, ◌<◌, ◌≤◌, Bool, true, cond, ◌&&◌, eqb, ltb, List, [], ◌∷◌, ◌++◌, map, length, get_or, Some, None, Option, sym, refl, ap, ◌∙◌, subst, ap₂, inl, inr, append_assoc, arith}
+use Rattle.std.proofs.Common.{◌≡◌, ℕ, zero, suc, ◌+◌, ◌<◌, ◌≤◌, Bool, true, cond, ◌&&◌, eqb, ltb, List, [], ◌∷◌, ◌++◌, map, length, get_or, reverse, Some, None, Option, sym, refl, ap, ◌∙◌, subst, ap₂, inl, inr, append_assoc, arith}
 use Rattle.std.proofs.lemmas.List.{length-append, length-map}
 use Rattle.std.proofs.lemmas.Bool.{lt-ltb, eq-eqb, ne_eqb, and_from}
 use Rattle.measure.specs.Rows.{on_some}
@@ -13,26 +13,26 @@ use Rattle.paths.proofs.Choosing.{At, at_below, some_is, none_some}
 use Rattle.paths.proofs.Tracing as tracing
 use Rattle.paths.proofs.Tracing.{BackLink, ForeLink, timed_at, back_stop, back_go, fore_stop, fore_go}
 use Rattle.sheet.specs.declared.line.Line.{Line}
-use Rattle.sheet.specs.declared.link.Link.TheVariants.{End, To, Broken}
+use Rattle.sheet.specs.declared.link.Way.TheVariants.{Back, Fore}
 use Rattle.sheet.specs.Lines.{past_line}
 use Rattle.sheet.specs.Written.{line_with, line_of}
-use Rattle.sheet.specs.Trails.{link_of, back_link, fore_link, walk_step, walk, back_arcs, fore_arcs}
-use Rattle.sheet.proofs.Trailing.{back_on, fore_on}
+use Rattle.sheet.specs.Trails.{ends, over, broken, link_of, back_link, fore_link, back_arcs, fore_arcs}
+use Rattle.sheet.proofs.Trailing.{walked_ends, back_on, fore_on}
 
 -- ---- links by their marks
-link_ends : (a j : ℕ) (onward : Bool) → a ≡ 1024 → j ≡ 4096 → link_of a j onward ≡ End
-link_ends a j onward p q = ap (λ x. cond x End (cond (ltb a 1024 && onward) (To a j) Broken)) (and_from (eqb a 1024) (eqb j 4096) (eq-eqb a 1024 p) (eq-eqb j 4096 q))
+link_ends : (a j : ℕ) (onward : Bool) → a ≡ 1024 → j ≡ 4096 → link_of a j onward ≡ ends
+link_ends a j onward p q = ap (λ x. cond x ends (cond (ltb a 1024 && onward) (over a j) broken)) (and_from (eqb a 1024) (eqb j 4096) (eq-eqb a 1024 p) (eq-eqb j 4096 q))
 
-link_leads : (a j : ℕ) (onward : Bool) → a < 1024 → onward ≡ true → link_of a j onward ≡ To a j
+link_leads : (a j : ℕ) (onward : Bool) → a < 1024 → onward ≡ true → link_of a j onward ≡ over a j
 link_leads a j onward p q =
-    ap (λ x. cond (x && eqb j 4096) End (cond (ltb a 1024 && onward) (To a j) Broken)) (ne_eqb a 1024 (λ e. omega arith))
-    ∙ ap (λ x. cond x (To a j) Broken) (and_from (ltb a 1024) onward (lt-ltb a 1024 p) q)
+    ap (λ x. cond (x && eqb j 4096) ends (cond (ltb a 1024 && onward) (over a j) broken)) (ne_eqb a 1024 (λ e. omega arith))
+    ∙ ap (λ x. cond x (over a j) broken) (and_from (ltb a 1024) onward (lt-ltb a 1024 p) q)
 
-back_end : (ls : List Line) (i : ℕ) → back_link ls i ≡ End → back_arcs ls i ≡ Some []
-back_end ls i e = ap (walk_step (λ a es. es ++ (a ∷ [])) (back_link ls) (λ j. walk (λ a es. es ++ (a ∷ [])) (back_link ls) i j)) e
+back_end : (ls : List Line) (i : ℕ) → back_link ls i ≡ ends → back_arcs ls i ≡ Some []
+back_end ls i e = ap (on_some reverse) (walked_ends Back ls i (sym e))
 
-fore_end : (ls : List Line) (i : ℕ) → fore_link ls i ≡ End → fore_arcs ls i ≡ Some []
-fore_end ls i e = ap (walk_step (λ a es. a ∷ es) (fore_link ls) (λ j. walk (λ a es. a ∷ es) (fore_link ls) (length ls - i) j)) e
+fore_end : (ls : List Line) (i : ℕ) → fore_link ls i ≡ ends → fore_arcs ls i ≡ Some []
+fore_end ls i e = walked_ends Fore ls i (sym e)
 
 -- ---- the lines of the tables
 module _ {R : Type 0} where
@@ -53,13 +53,13 @@ module _ {R : Type 0} where
   back_at : (ts : List (Timed R)) (rest : List Line) (i : ℕ) (t : Timed R) → At ts i t
       → back_link (map line_of ts ++ rest) i ≡ link_of t.line.back_arc t.line.back_line (ltb t.line.back_line i)
   back_at ts rest i t e =
-      ap₂ (λ (x : Bool) (l : Line). cond x (link_of l.back_arc l.back_line (ltb l.back_line i)) Broken) (in_table ts rest i t e) (line_at ts rest i t e)
+      ap₂ (λ (x : Bool) (l : Line). cond x (link_of l.back_arc l.back_line (ltb l.back_line i)) broken) (in_table ts rest i t e) (line_at ts rest i t e)
       ∙ back_marks t.line t.required i
 
   fore_at : (ts : List (Timed R)) (rest : List Line) (i : ℕ) (t : Timed R) (y : Told R) → At ts i t → t.required ≡ Some y
       → fore_link (map line_of ts ++ rest) i ≡ link_of y.arc y.line (ltb i y.line)
   fore_at ts rest i t y e r =
-      ap₂ (λ (x : Bool) (l : Line). cond x (link_of l.fore_arc l.fore_line (ltb i l.fore_line)) Broken) (in_table ts rest i t e)
+      ap₂ (λ (x : Bool) (l : Line). cond x (link_of l.fore_arc l.fore_line (ltb i l.fore_line)) broken) (in_table ts rest i t e)
       (line_at ts rest i t e ∙ ap (line_with t.line) r)
 
 module _ {R : Type 0} (m : Rows R) (b : RowBlock R) (laws : Laws m) (n : ℕ) (numbered : (e : Arc R) → Live b e → e.number < no_arc) (rest : List Line) where
@@ -95,7 +95,7 @@ module _ {R : Type 0} (m : Rows R) (b : RowBlock R) (laws : Laws m) (n : ℕ) (n
           let small : arc < no_arc = subst (λ x. x < no_arc) (sym w.number_is) (numbered w.arc w.live) in
           let u = at_timed 0 (arrivals m b n) line w.line w.stands in
           let k = f line u.0 u.1 (omega (arith, h, w.lower)) in
-          let to : To arc line ≡ back_link table i = sym (link ∙ link_leads arc line (ltb line i) small (lt-ltb line i w.lower)) in (
+          let to : over arc line ≡ back_link table i = sym (link ∙ link_leads arc line (ltb line i) small (lt-ltb line i w.lower)) in (
             k.0 ++ (arc ∷ []),
             back_on table i arc line to ∙ ap (on_some (λ es. es ++ (arc ∷ []))) k.1,
             λ es.
@@ -129,7 +129,7 @@ module _ {R : Type 0} (m : Rows R) (b : RowBlock R) (laws : Laws m) (n : ℕ) (n
           let place_is : y.line ≡ w.place = omega (arith, w.place_is) in
           let small : y.arc < no_arc = subst (λ x. x < no_arc) (sym w.number_is) (numbered w.arc w.live) in
           let onward : ltb i y.line ≡ true = lt-ltb i y.line (omega (arith, place_is, w.higher)) in
-          let to : To y.arc y.line ≡ fore_link table i = sym (link ∙ link_leads y.arc y.line (ltb i y.line) small onward) in
+          let to : over y.arc y.line ≡ fore_link table i = sym (link ∙ link_leads y.arc y.line (ltb i y.line) small onward) in
           let k = f w.place w.beyond w.asks_for w.stands w.required_is (omega (arith, h, w.higher)) in
           fore_on table i y.arc y.line to
           ∙ ap (λ j. on_some (λ es. y.arc ∷ es) (fore_arcs table j)) place_is

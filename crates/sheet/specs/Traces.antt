@@ -1,5 +1,5 @@
 -- What a trace answers, and the list that it leaves, on any tables.
-use Rattle.std.specs.Prelude.{ℕ, ◌+◌, ◌-◌, cond, List, ◌++◌, length, take, drop, replicate, ℤ, Some, None, Ok, Err, Option, Result, nat_le, slice_index_or, unsigned_abs}
+use Rattle.std.specs.Prelude.{ℕ, ◌-◌, cond, List, ◌++◌, length, replicate, ℤ, Some, None, Ok, Err, Option, Result, nat_le, slice_index_or, unsigned_abs}
 use Rattle.graph.specs.Ranges.{is_node}
 use Rattle.paths.specs.Sheets.{no_arc}
 use Rattle.sheet.specs.declared.line.Line.{Line}
@@ -25,10 +25,6 @@ pub record TraceOutcome : Type 0 where
 -- without a path, a list of size arcs is full of the mark for none
 abbrev pub no_arcs : ℕ → List ℕ
 no_arcs size = replicate size no_arc
-
--- a list with the arcs path from the place at on
-abbrev pub filled : ℕ → List ℕ → List ℕ → List ℕ
-filled at path list = take at list ++ (path ++ drop (at + length path) list)
 
 abbrev pub untraced : ℕ → ℕ → TraceOutcome
 untraced size number = record { answer = Err number; list = no_arcs size }

@@ -7,14 +7,14 @@ mod line;
 mod link;
 mod node;
 mod refusals;
-mod sizes;
+mod tables;
 mod tracing;
 mod trail;
 
-pub use blank::{blank_lines, blank_nodes, blank_rows};
+pub use blank::blank_rows;
 pub use laws::sheets_are_traced;
 pub use line::Line;
 pub use node::NodeEntry;
 pub use refusals::TraceRefusal;
-pub use sizes::is_well_sized;
+pub use tables::{TablesMut, TablesRef};
 pub use tracing::trace;

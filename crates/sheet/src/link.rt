@@ -1,9 +1,15 @@
-// Where a line's link leads.
+// Where the links of a line lead.
 
-// The end of the links, an arc and the line behind it, or a link that cannot be followed.
+// Which links are followed: back to a start, or fore to an end.
 #[derive(Clone, Copy)]
-pub(crate) enum Link {
-    End,
-    To(u16, u16),
-    Broken,
+pub(crate) enum Way {
+    Back,
+    Fore,
+}
+
+// A link, by its arc and the line behind it.
+#[derive(Clone, Copy)]
+pub(crate) struct Link {
+    pub arc: u16,
+    pub line: u16,
 }

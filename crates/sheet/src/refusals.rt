@@ -2,6 +2,8 @@
 ghost use Rattle.std.specs.Prelude.{◌≡◌};
 ghost use Rattle.sheet.specs.Traces.{refusal_number};
 
+use std::fmt;
+
 #[derive(Clone, Copy, PartialEq, Eq, Debug)]
 pub enum TraceRefusal {
     // The tables have not the lengths that they must have.
@@ -24,5 +26,18 @@ impl TraceRefusal {
             TraceRefusal::BrokenLink => 16,
             TraceRefusal::ShortList => 17,
         }
+    }
+}
+
+impl fmt::Display for TraceRefusal {
+    fn fmt<W: fmt::Write>(&self, f: &mut fmt::Formatter<W>) -> fmt::Result {
+        let number = self.number();
+        let words = match self {
+            TraceRefusal::WrongLength => "a table has the wrong length",
+            TraceRefusal::OutOfRange => "there is no such node",
+            TraceRefusal::BrokenLink => "a link of the sheet cannot be followed",
+            TraceRefusal::ShortList => "the list for the arcs is too short",
+        };
+        write!(f, "number {number}: {words}")
     }
 }

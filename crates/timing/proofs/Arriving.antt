@@ -137,8 +137,8 @@ module _ {R : Type 0} (m : Rows R) (b : RowBlock R) (laws : Laws m) where
         ap (over_at m b rows (arrivals m b v) k) p.live
         ∙ over_tail (arc_with m.origin rows k e) u v refl lt
         ∙ over_crossed m b rows arcs firsts k e A (lines_at u) q (own_nodes u)
-        ∙ ap (crossed m (crossing_of m arcs rows firsts k e) A) (sym (segment_at u v lt))
-        ∙ ap₂ (λ x y. crossed m (crossing_of m arcs rows firsts k e) x (segment x (y - x) (arrivals m b v))) (sym (f u (omega (arith, lt)))) (sym (first_next firsts u v lt f))
+        ∙ ap (crossed m (crossing_of m arcs rows k e) A) (sym (segment_at u v lt))
+        ∙ ap₂ (λ x y. crossed m (crossing_of m arcs rows k e) x (segment x (y - x) (arrivals m b v))) (sym (f u (omega (arith, lt)))) (sym (first_next firsts u v lt f))
         ∙ ap (brought_over m arcs rows firsts (arrivals m b v) k) (sym p.live)
 
     pub into_is : (firsts : List ℕ) (v : ℕ) → Firsts firsts v → into m b v b.arcs (arrivals m b v) ≡ flat_map (brought m arcs rows firsts (arrivals m b v)) (numbers_at Head v 0 arcs)

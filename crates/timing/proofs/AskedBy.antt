@@ -175,11 +175,11 @@ module _ {R : Type 0} (m : Rows R) (b : RowBlock R) where
     pub firsts_rise : (u v : ℕ) → u < v → v < n → get_or firsts (u + 1) 0 ≤ length (arrivals m b v)
     firsts_rise u v h k = omega (arith, first_next m b laws firsts u n (omega arith) at, arrivals_grow m b laws u v h)
 
-    pass_is : (k : ℕ) (e : LiveArc) (s : ℕ) → pass b s (arc_with m.origin rows k e) ≡ crossing_tag (crossing_of m arcs rows firsts k e) s
+    pass_is : (k : ℕ) (e : LiveArc) (s : ℕ) → pass b s (arc_with m.origin rows k e) ≡ crossing_tag (crossing_of m arcs rows k e) s
     unfolding pass
     pass_is k e s = ap (λ g. bit_and (bit_or s g) e.sets) (begins_same m.origin rows b arcs e.from q)
 
-    passes_is : (k : ℕ) (e : LiveArc) (s : ℕ) → passes b s (arc_with m.origin rows k e) ≡ apart (crossing_tag (crossing_of m arcs rows firsts k e) s) (crossing_of m arcs rows firsts k e).ends
+    passes_is : (k : ℕ) (e : LiveArc) (s : ℕ) → passes b s (arc_with m.origin rows k e) ≡ apart (crossing_tag (crossing_of m arcs rows k e) s) (crossing_of m arcs rows k e).ends
     unfolding passes
     passes_is k e s = ap₂ apart (pass_is k e s) (ends_same m.origin rows b arcs e.to q)
 
@@ -201,7 +201,7 @@ module _ {R : Type 0} (m : Rows R) (b : RowBlock R) where
           → asked_from rows l i (timed m b i (drop i (arrivals m b n))) k (Some e) ≡ as_list (asked_through m arcs rows firsts xs l.tag k (Some e))
       over_tables k e live le =
           let x = arc_with m.origin rows k e in
-          let h = crossing_of m arcs rows firsts k e in
+          let h = crossing_of m arcs rows k e in
           let A = arrivals m b n in
           let F = length (arrivals m b e.to) in
           let N = lines_at m b laws e.to in

@@ -1,8 +1,6 @@
 -- Asking for the ticks of one arc after the other.
-use Rattle.std.proofs.Common.{◌≡◌, ℕ, zero, suc, ◌+◌, ◌<◌, ◌⊎◌, List, [], ◌∷◌, length, get_or, ℤ, pos, Some, None, Ok, Err, Option, Result, sym, refl, ap, ◌∙◌, subst, ap₂, subst₂, inl, inr, arith}
+use Rattle.std.proofs.Common.{◌≡◌, ℕ, zero, suc, ◌+◌, ◌<◌, List, [], ◌∷◌, get_or, ℤ, pos, Some, None, Ok, Err, Option, Result, sym, refl, ap, subst, ap₂, subst₂, arith}
 use Rattle.std.specs.Result.{result_map_both}
-use Rattle.std.proofs.lemmas.List.{get_or-set_same, get_or-set_other}
-use Rattle.std.proofs.lemmas.Bool.{cases_eq}
 use Rattle.delay.specs.Entries.{Entry}
 use Rattle.graph.specs.declared.parts.LiveArc.{LiveArc}
 use Rattle.graph.specs.Kept.{Live}
@@ -25,21 +23,6 @@ module _ (means : ℕ → Entry) (arcs : List (Option LiveArc)) where
   -- the live arcs below n have their ticks in the table
   abbrev pub AskedTo : List ℤ → ℕ → Type 0
   AskedTo ticks n = (k : ℕ) (e : LiveArc) → k < n → Live arcs k e → HasTicks means ticks k e
-
-  pub asked_more : (old new : List ℤ) (n : ℕ) (x : Unit) → n < length old → AskedTo old n → AskedOne n (get_or arcs n None) means old new (Ok x) → AskedTo new (n + 1)
-  asked_more old new n x b a one k e h l = go (get_or arcs n None) refl one (cases_eq k n)
-    where
-      go : (o : Option LiveArc) → get_or arcs n None ≡ o → AskedOne n o means old new (Ok x) → (k ≡ n) ⊎ (k ≡ n → ⊥) → HasTicks means new k e
-      go None q s (inl z) = absurd (none_some e (sym q ∙ ap (λ i. get_or arcs i None) (sym z) ∙ l))
-      go None q s (inr ne) = subst (λ (ts : List ℤ). HasTicks means ts k e) (sym s.1) (a k e (omega (arith, ne)) l)
-      go (Some f) q s (inl z) =
-          let d = s.0 in
-          let same : f ≡ e = some_is f e (sym q ∙ ap (λ i. get_or arcs i None) (sym z) ∙ l) in
-          let told : get_or new n (pos 0) ≡ d = ap (λ ts. get_or ts n (pos 0)) s.2 ∙ get_or-set_same old n d (pos 0) b in
-          subst (λ i. HasTicks means new i e) (sym z) (subst (λ (y : LiveArc). HasTicks means new n y) same (record { ticks_are = s.1 ∙ ap Ok (sym told); node = s.3 }))
-      go (Some f) q s (inr ne) =
-          let w = a k e (omega (arith, ne)) l in
-          record { ticks_are = w.ticks_are ∙ ap Ok (sym (ap (λ ts. get_or ts k (pos 0)) s.2 ∙ get_or-set_other old n k s.0 (pos 0) ne)); node = w.node }
 
 -- the first live arc without ticks stops the timing
 module _ (means : ℕ → Entry) where

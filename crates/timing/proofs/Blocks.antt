@@ -123,7 +123,7 @@ module _ {R : Type 0} (m : Rows R) (b : RowBlock R) (rows : List R) where
 
   -- over an arc, from the lines of the node that it leaves
   pub over_crossed : (arcs : List (Option LiveArc)) (firsts : List ℕ) (k : ℕ) (e : LiveArc) (i : ℕ) (ls : List (Line R)) → b.arcs ≡ arcs_with m.origin rows 0 arcs
-      → AllByRecursion (λ (l : Line R). l.node ≡ e.from) ls → over m b (arc_with m.origin rows k e) i ls ≡ crossed m (crossing_of m arcs rows firsts k e) i ls
+      → AllByRecursion (λ (l : Line R). l.node ≡ e.from) ls → over m b (arc_with m.origin rows k e) i ls ≡ crossed m (crossing_of m arcs rows k e) i ls
   unfolding pass passes
   over_crossed arcs firsts k e i [] q a = refl
   over_crossed arcs firsts k e i (l ∷ ls) q a =
@@ -131,6 +131,6 @@ module _ {R : Type 0} (m : Rows R) (b : RowBlock R) (rows : List R) where
       ap (λ t. cond t (cond (passes b l.tag x) (sent m b x i l ∷ over m b x (suc i) ls) (over m b x (suc i) ls)) (over m b x (suc i) ls)) (eq-eqb l.node e.from a.0)
       ∙ ap (λ r. cond (passes b l.tag x) (sent m b x i l ∷ r) r) (over_crossed arcs firsts k e (suc i) ls q a.1)
       ∙ ap₂ (λ p n. let h : Crossing R = record { arc = k; to = e.to; begins = p; sets = e.sets; ends = n; row = x.row } in
-      let rest = crossed m (crossing_of m arcs rows firsts k e) (suc i) ls in
+      let rest = crossed m (crossing_of m arcs rows k e) (suc i) ls in
       cond (apart (bit_and (bit_or l.tag p) e.sets) n) (crossing_line m h i l ∷ rest) rest)
       (begins_same m.origin rows b arcs e.from q) (ends_same m.origin rows b arcs e.to q)

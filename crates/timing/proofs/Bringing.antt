@@ -1,18 +1,12 @@
 -- One arc brings its lines, and then the next.
-use Rattle.std.proofs.Common.{◌≡◌, ℕ, zero, suc, ◌+◌, ◌-◌, ◌<◌, List, [], ◌∷◌, ◌++◌, map, length, get_or, take, drop, ℤ, pos, Some, None, Option, sym, refl, ap, ◌∙◌, subst, ap₂, arith}
+use Rattle.std.proofs.Common.{◌≡◌, ℕ, zero, suc, ◌+◌, ◌<◌, List, [], ◌∷◌, ◌++◌, map, length, get_or, take, drop, Option, sym, refl, ap, ◌∙◌, subst, ap₂, arith}
 use Rattle.std.specs.List.{flat_map}
 use Rattle.std.proofs.lemmas.List.{take_more, append-nil, append_assoc, take-append-drop}
-use Rattle.graph.specs.declared.parts.LiveArc.{LiveArc}
-use Rattle.graph.specs.Sorting.{segment}
 use Rattle.paths.specs.Rows.{Rows}
 use Rattle.paths.specs.Sheets as sheets
 use Rattle.paths.specs.Sheets.{entered}
 use Rattle.sheet.specs.declared.line.Line.{Line}
-use Rattle.timing.specs.declared.crossing.Crossing.{Crossing}
-use Rattle.timing.specs.declared.tables.Tables.{Tables}
 use Rattle.timing.specs.Lines.{front, behind, Stands, Filled}
-use Rattle.timing.specs.Crossings.{crossed}
-use Rattle.timing.specs.Bringing.{Masked, tabled_crossing, crossing_of, brought_over, brought}
 use Rattle.timing.proofs.Entering.{entered_append, entered_grows}
 use Rattle.timing.proofs.Crossed.{stands_then, front_same}
 
@@ -24,26 +18,6 @@ pub row_at : {M R : Type 0} (f : M → R) (xs : List M) (k : ℕ) (y : M) (d : R
 row_at f [] k y d h = absurd (omega arith)
 row_at f (x ∷ xs) zero y d h = refl
 row_at f (x ∷ xs) (suc k) y d h = row_at f xs k y d (omega arith)
-
--- the crossing that is read from the tables is the arc's
-module _ {R : Type 0} (m : Rows R) (arcs : List (Option LiveArc)) (firsts : List ℕ) where
-  pub tabled_is : (row_of_arc : ℤ → R) (t : Tables) (k : ℕ) (e : LiveArc) → Masked arcs t.begins t.ends → e.from < 256 → e.to < 256 → k < length t.ticks
-      → tabled_crossing row_of_arc t k e ≡ crossing_of m arcs (map row_of_arc t.ticks) firsts k e
-  tabled_is row_of_arc t k e masked from to below =
-      λ i. record {
-        arc = k;
-        to = e.to;
-        begins = masked.begins_are e.from from i;
-        sets = e.sets;
-        ends = masked.ends_are e.to to i;
-        row = row_at row_of_arc t.ticks k (pos 0) m.origin below i;
-      }
-
-  pub brought_live : (rows : List R) (ls : List (sheets.Line R)) (k : ℕ) (e : LiveArc) (h : Crossing R) → get_or arcs k None ≡ Some e → h ≡ crossing_of m arcs rows firsts k e
-      → crossed m h (get_or firsts e.from 0) (segment (get_or firsts e.from 0) (get_or firsts (e.from + 1) 0 - get_or firsts e.from 0) ls) ≡ brought m arcs rows firsts ls k
-  brought_live rows ls k e h live same =
-      let first = get_or firsts e.from 0 in
-      ap (λ x. crossed m x first (segment first (get_or firsts (e.from + 1) 0 - first) ls)) same ∙ ap (brought_over m arcs rows firsts ls k) (sym live)
 
 -- ---- a loop over lists that enter one after the other: F gives what an item brings from the lines in front
 module _ {M R : Type 0} (row : M → R) (m : Rows R) {X : Type 0} (F : List (sheets.Line R) → X → List (sheets.Line R)) where

@@ -1,66 +1,94 @@
 -- The columns of the tables, one by one.
-use Rattle.std.proofs.Common.{◌≡◌, ℕ, ◌-◌, ◌≤◌, List, [], ◌∷◌, ◌++◌, map, length, take, drop, replicate, sym, refl, ap, ◌∙◌, ap₂, arith}
+use Rattle.std.proofs.Common.{◌≡◌, ℕ, ◌-◌, ◌≤◌, Bool, true, false, ◌&&◌, List, [], ◌∷◌, ◌++◌, map, length, take, drop, replicate, Some, None, Ok, Err, Option, Result, sym, refl, ap, ◌∙◌, ap₂, arith}
 use mathlib.Core.List.{map-map}
-use borrow.Rule.Slice.PartMut.{put_mid, same_len_mid}
-use Rattle.std.proofs.lemmas.List.{length-map, length-take-le, length-drop, take_all, map-append}
-use Rattle.std.proofs.lemmas.Slice.{take-put_mid}
+use borrow.Rule.Slice.PartMut.{put_mid}
+use Rattle.std.proofs.lemmas.List.{length-map, length-append, length-drop, length-take-le, take_all, take_at, take-map, map-append}
+use Rattle.std.proofs.lemmas.Bool.{eqb-true, leb-true}
 use Rattle.paths.specs.Rows.{Rows}
 use Rattle.paths.specs.Blocks.{RowBlock}
+use Rattle.paths.specs.Graphs.{Untimed}
 use Rattle.paths.specs.Sheets as sheets
 use Rattle.paths.proofs.Slacks.{lines_are}
 use Rattle.sheet.specs.declared.line.Line.{Line}
-use Rattle.sheet.specs.Written.{arrival_of}
-use Rattle.timing.specs.Lines.{views}
+use Rattle.sheet.specs.declared.tables.TablesMut.{TablesMut}
+use Rattle.sheet.specs.declared.node.NodeEntry.{NodeEntry}
+use Rattle.sheet.specs.Blanks.{blank_line, blank_entry}
+use Rattle.sheet.specs.Tables.{Tables, tables_of, well_sized, blanked}
+use Rattle.sheet.specs.Lent.{tables_in}
+use Rattle.sheet.specs.Written.{line_with, line_of, arrival_of}
+use Rattle.timing.specs.declared.refusals.TimeRefusal.{TimeRefusal}
+use Rattle.timing.specs.Lines.{view, views}
 use Rattle.timing.specs.Arrived.{Arrived}
+use Rattle.timing.specs.Filled.{FilledFor}
+use Rattle.timing.specs.Arriving.{LinesOf}
 use Rattle.timing.proofs.Crossed.{put_end}
 
--- a blank column of values, by its rows
-pub blank_column : {M R : Type 0} (row : M → R) (xs ys : List M) (z : R) → map row ys ≡ replicate (length xs) z → map row ys ≡ replicate (length (map row xs)) z
-blank_column row xs ys z e = e ∙ ap (λ n. replicate n z) (sym (length-map xs row))
+-- the lengths of tables that have the right ones
+pub record Sizes {M : Type 0} (t : TablesMut M) : Type 0 where
+  pub lines : length t.lines.now ≤ 4096
+  pub arrivals : length t.arrivals.now ≡ length t.lines.now
+  pub required : length t.required.now ≡ length t.lines.now
+  pub nodes : length t.nodes.now ≡ 256
+  pub slacks : length t.slacks.now ≡ 256
 
-end_length : {X : Type 0} (n : ℕ) (xs : List X) → length (take (length xs - n) (drop n xs)) ≡ length xs - n
-end_length n xs = length-take-le (length xs - n) (drop n xs) (omega (arith, length-drop n xs))
+both : (x y : Bool) → (x && y) ≡ true → (x ≡ true) × (y ≡ true)
+both true y e = (refl, e)
+both false y e = absurd (let z : ◌≡◌ {A = ℕ} 0 1 = cc in omega arith)
 
-pub blanked_end : {X : Type 0} (n : ℕ) (xs ys : List X) (z : X) → n ≤ length xs → ys ≡ replicate (length (take (length xs - n) (drop n xs))) z
-    → put_mid n (length xs - n) xs ys ≡ take n xs ++ replicate (length xs - n) z
-blanked_end n xs ys z h e = put_end n xs ys h ∙ ap (λ t. take n xs ++ t) (e ∙ ap (λ k. replicate k z) (end_length n xs))
+pub sizes : {M R : Type 0} (row : M → R) (t : TablesMut M) → well_sized (tables_in row t) ≡ true → Sizes t
+sizes row t e =
+    let few = both _ _ e in
+    let arrivals = both _ _ few.1 in
+    let required = both _ _ arrivals.1 in
+    let nodes = both _ _ required.1 in
+    record {
+      lines = leb-true _ _ few.0;
+      arrivals = sym (length-map t.arrivals.now row) ∙ eqb-true _ _ arrivals.0;
+      required = sym (length-map t.required.now row) ∙ eqb-true _ _ required.0;
+      nodes = eqb-true _ _ nodes.0;
+      slacks = sym (length-map t.slacks.now row) ∙ eqb-true _ _ nodes.1;
+    }
 
-pub blanked_rows : {M R : Type 0} (row : M → R) (n : ℕ) (xs ys : List M) (z : R) → n ≤ length xs → map row ys ≡ replicate (length (take (length xs - n) (drop n xs))) z
-    → map row (put_mid n (length xs - n) xs ys) ≡ map row (take n xs) ++ replicate (length xs - n) z
-blanked_rows row n xs ys z h e = ap (map row) (put_end n xs ys h) ∙ map-append row (take n xs) ys ∙ ap (λ t. map row (take n xs) ++ t) (e ∙ ap (λ k. replicate k z) (end_length n xs))
+-- blank tables of the same lengths are the same
+pub same_blanks : {M R : Type 0} (row : M → R) (z : R) (t : TablesMut M) (ls : List Line) (xs ys : List M) (ns : List NodeEntry) (ss : List M)
+    → length ls ≡ length t.lines.now → length xs ≡ length t.arrivals.now → length ys ≡ length t.required.now → length ns ≡ length t.nodes.now → length ss ≡ length t.slacks.now
+    → blanked z (tables_of row ls xs ys ns ss) ≡ blanked z (tables_in row t)
+same_blanks {M} row z t ls xs ys ns ss a b c d e =
+    let mapped-length = λ (us vs : List M) (q : length us ≡ length vs). length-map us row ∙ q ∙ sym (length-map vs row) in
+    λ i. record {
+      lines = replicate (a i) blank_line;
+      arrivals = replicate (mapped-length xs t.arrivals.now b i) z;
+      required = replicate (mapped-length ys t.required.now c i) z;
+      nodes = replicate (d i) blank_entry;
+      slacks = replicate (mapped-length ss t.slacks.now e i) z;
+    }
 
 -- the first lines, with all that is known of them
 pub arrived_part : {M R : Type 0} (row : M → R) (m : Rows R) (b : RowBlock R) (ls : List Line) (xs : List M) (firsts : List ℕ) (n : ℕ) → Arrived row m b 256 ls xs firsts n
-    → Arrived row m b 256 (take (n - 0) ls) (take (n - 0) xs) firsts (length (take (n - 0) ls))
+    → Arrived row m b 256 (take n ls) (take n xs) firsts (length (take n ls))
 arrived_part row m b ls xs firsts n a =
-    let k : n - 0 ≡ n = omega arith in
-    let size : length (take (n - 0) ls) ≡ n = length-take-le (n - 0) ls (omega (arith, a.fit)) ∙ k in
-    let width : length (take (n - 0) xs) ≡ n = length-take-le (n - 0) xs (omega (arith, a.fit, a.even)) ∙ k in
+    let size : length (take n ls) ≡ n = length-take-le n ls a.fit in
+    let width : length (take n xs) ≡ n = length-take-le n xs (omega (arith, a.fit, a.even)) in
     record {
-      stand = ap₂ (views row) (take_all (length (take (n - 0) ls)) (take (n - 0) ls) (omega arith) ∙ ap (λ i. take i ls) k) (take_all (length (take (n - 0) ls)) (take (n - 0) xs) (omega arith) ∙ ap (λ i. take i xs) k) ∙ a.stand;
+      stand = ap₂ (views row) (take_all (length (take n ls)) (take n ls) (omega arith)) (take_all (length (take n ls)) (take n xs) (omega arith)) ∙ a.stand;
       fit = omega arith;
       even = width ∙ sym size;
       firsts_are = a.firsts_are;
     }
 
--- a part is written, and the rest is blanked: what stands in the whole
-pub written_part : {X : Type 0} (n : ℕ) (xs part : List X) → n ≤ length xs → length part ≡ n → take n (put_mid 0 (n - 0) xs part) ≡ part
-written_part n xs part h e = take-put_mid 0 (n - 0) xs part n (omega (arith, e)) (omega arith)
+-- ---- what stands in a column once the first n items are written and the rest is blanked
+blank_length : {X : Type 0} (n size : ℕ) (xs : List X) → length xs ≡ size → length (take (length xs - n) (drop n xs)) ≡ size - n
+blank_length n size xs e = length-take-le (length xs - n) (drop n xs) (omega (arith, length-drop n xs)) ∙ ap (λ k. k - n) e
 
-pub length_part : {X : Type 0} (n : ℕ) (xs part : List X) → n ≤ length xs → length part ≡ length (take (n - 0) xs) → length (put_mid 0 (n - 0) xs part) ≡ length xs
-length_part n xs part h e = same_len_mid 0 (n - 0) xs part e
+pub plain_column : {X : Type 0} (n size : ℕ) (part rest blanks target : List X) (z : X) → length part ≡ n → length (part ++ rest) ≡ size → blanks ≡ replicate (length (take (length (part ++ rest) - n) (drop n (part ++ rest)))) z → part ≡ target
+    → put_mid n (length (part ++ rest) - n) (part ++ rest) blanks ≡ target ++ replicate (size - n) z
+plain_column n size part rest blanks target z e l q t =
+    put_end n (part ++ rest) blanks (omega (arith, length-append part rest)) ∙ ap₂ (λ a b. a ++ b) (take_at part rest n e ∙ t) (q ∙ ap (λ k. replicate k z) (blank_length n size (part ++ rest) l))
 
--- ---- what stands in each column once a part is written and the rest is blanked
-module _ {X : Type 0} (n size : ℕ) (xs part : List X) (h : n ≤ length xs) (e : length part ≡ length (take (n - 0) xs)) (k : length xs ≡ size) where
-  part_length : length part ≡ n
-  part_length = let z : n - 0 ≡ n = omega arith in e ∙ length-take-le (n - 0) xs (omega arith) ∙ z
-
-  pub plain_column : (target : List X) (z : X) → part ≡ target → take n (put_mid 0 (n - 0) xs part) ++ replicate (length (put_mid 0 (n - 0) xs part) - n) z ≡ target ++ replicate (size - n) z
-  plain_column target z q = ap₂ (λ a b. a ++ replicate (b - n) z) (written_part n xs part h part_length ∙ q) (length_part n xs part h e ∙ k)
-
-  pub row_column : {R : Type 0} (row : X → R) (target : List R) (z : R) → map row part ≡ target
-      → map row (take n (put_mid 0 (n - 0) xs part)) ++ replicate (length (put_mid 0 (n - 0) xs part) - n) z ≡ target ++ replicate (size - n) z
-  row_column row target z q = ap₂ (λ a b. a ++ replicate (b - n) z) (ap (map row) (written_part n xs part h part_length) ∙ q) (length_part n xs part h e ∙ k)
+pub row_column : {X R : Type 0} (row : X → R) (n size : ℕ) (xs blanks : List X) (target : List R) (z : R) → n ≤ length xs → length xs ≡ size → map row blanks ≡ replicate (length (take (length xs - n) (drop n xs))) z → map row (take n xs) ≡ target
+    → map row (put_mid n (length xs - n) xs blanks) ≡ target ++ replicate (size - n) z
+row_column row n size xs blanks target z e l q t =
+    ap (map row) (put_end n xs blanks e) ∙ map-append row (take n xs) blanks ∙ ap₂ (λ a b. a ++ b) t (q ∙ ap (λ k. replicate k z) (blank_length n size xs l))
 
 views_arrivals : {M R : Type 0} (row : M → R) (ls : List Line) (xs : List M) → length xs ≡ length ls → map (λ (l : sheets.Line R). l.arrival) (views row ls xs) ≡ map row xs
 views_arrivals row [] [] e = refl
@@ -77,3 +105,24 @@ arrival_column {M} {R} row m b ls xs firsts n a =
     sym (views_arrivals row (take n ls) (take n xs) (length-take-le n xs (omega (arith, a.fit, a.even)) ∙ sym (length-take-le n ls a.fit)))
     ∙ ap (map (λ (l : sheets.Line R). l.arrival)) (a.stand ∙ sym (lines_are m b 0 (sheets.arrivals m b 256)))
     ∙ map-map (λ (l : sheets.Line R). l.arrival) (λ t. t.line) (sheets.sheet m b 256)
+
+-- ---- filled tables have the arrivals in front
+view_of : {M R : Type 0} (row : M → R) (l : sheets.Line R) (o : Option (sheets.Told R)) (x : M) → row x ≡ l.arrival → view row (line_with l o) x ≡ l
+view_of row l None x e = λ i. record { node = l.node; tag = l.tag; arrival = e i; back_arc = l.back_arc; back_line = l.back_line }
+view_of row l (Some y) x e = λ i. record { node = l.node; tag = l.tag; arrival = e i; back_arc = l.back_arc; back_line = l.back_line }
+
+views_of : {M R : Type 0} (row : M → R) (ts : List (sheets.Timed R)) (xs : List M) → map row xs ≡ map arrival_of ts → views row (map line_of ts) xs ≡ map (λ t. t.line) ts
+views_of row [] xs e = refl
+views_of row (t ∷ ts) [] e = absurd (let z : ◌≡◌ {A = ℕ} 0 1 = cc in omega arith)
+views_of row (t ∷ ts) (x ∷ xs) e = ap₂ (λ a b. a ∷ b) (view_of row t.line t.required x (cc)) (views_of row ts xs (cc))
+
+pub filled_lines : {M R : Type 0} (row : M → R) (m : Rows R) (ls : List Line) (xs ys : List M) (ns : List NodeEntry) (ss : List M) (block : Result (RowBlock R) Untimed) (r : Result ℕ TimeRefusal)
+    → FilledFor m (length ls) (tables_of row ls xs ys ns ss) block r → LinesOf row m ls xs block r
+filled_lines row m ls xs ys ns ss (Err u) r f = f
+filled_lines row m ls xs ys ns ss (Ok b) (Err x) f = (f.0, omega (arith, f.1, sheet_length m b 256))
+filled_lines {M} {R} row m ls xs ys ns ss (Ok b) (Ok n) f =
+    let ts = sheets.sheet m b 256 in
+    let written_are = f.2 in
+    let lines : take n ls ≡ map line_of ts = ap (λ (t : Tables R). take n t.lines) written_are ∙ take_at (map line_of ts) _ n (length-map ts line_of ∙ sym f.0) in
+    let times : map row (take n xs) ≡ map arrival_of ts = sym (take-map row n xs) ∙ ap (λ (t : Tables R). take n t.arrivals) written_are ∙ take_at (map arrival_of ts) _ n (length-map ts arrival_of ∙ sym f.0) in
+    (f.0 ∙ sheet_length m b 256, ap (λ l. views row l (take n xs)) lines ∙ views_of row ts (take n xs) times ∙ lines_are m b 0 (sheets.arrivals m b 256))

@@ -1,16 +1,16 @@
 -- A table of lines whose columns are those of a sheet.
-use Rattle.std.proofs.Common.{◌≡◌, ℕ, zero, suc, ◌<◌, ◌≤◌, Bool, true, List, [], ◌∷◌, ◌++◌, map, length, get_or, Some, None, Option, sym, refl, ap, ◌∙◌, subst, ap₂, ⊎_elim, arith}
+use Rattle.std.proofs.Common.{◌≡◌, ℕ, zero, suc, ◌<◌, ◌≤◌, true, List, [], ◌∷◌, ◌++◌, map, length, get_or, Some, None, Option, sym, refl, ap, ◌∙◌, subst, ap₂, ⊎_elim, arith}
 use mathlib.Core.List.Memᴰ
 use Rattle.std.specs.List.{AllByRecursion}
 use Rattle.std.proofs.lemmas.List.{length-append, length-map, take_all, get_or-map}
 use Rattle.std.proofs.lemmas.Bool.{cases_lt}
-use Rattle.measure.specs.Rows.{Row, Bounded}
-use Rattle.measure.specs.Laws.{Order}
-use Rattle.paths.specs.Rows.{Rows, rows as measured}
+use Rattle.measure.specs.declared.measure.Measure.{Ghosts as Measure}
+use Rattle.measure.specs.Rows.{Row, Bounded, zeros}
+use Rattle.measure.specs.Bounds.{from_bounded}
+use Rattle.paths.specs.Rows.{Rows}
 use Rattle.paths.specs.Blocks.{RowBlock}
 use Rattle.paths.specs.Sheets as sheets
 use Rattle.paths.specs.Sheets.{arrivals, timed, sheet}
-use Rattle.paths.specs.Sound.{Sound}
 use Rattle.paths.proofs.RowLaws.{Laws}
 use Rattle.paths.proofs.Small.{Given, tame}
 use Rattle.paths.proofs.Choosing.{In, in_all}
@@ -20,12 +20,16 @@ use Rattle.paths.proofs.Arriving.{arrivals_right}
 use Rattle.sheet.specs.declared.line.Line.{Line}
 use Rattle.sheet.specs.Lines.{past_line}
 use Rattle.sheet.specs.Written.{line_with, line_of, arrival_of, row_or, required_of}
+use Rattle.timing.specs.declared.block.TimedBlock.{TimedBlock}
+use Rattle.timing.specs.Measured.{measured}
+use Rattle.timing.specs.TimedBlock.{rows_of}
 use Rattle.timing.specs.Lines.{views, front}
 use Rattle.timing.specs.Crossings.{Near}
 use Rattle.timing.specs.Requiring.{AsksWithin}
 use Rattle.timing.specs.Slacks.{timed_of, timeds, TimesWithin}
 use Rattle.timing.specs.Arrived.{Arrived}
 use Rattle.timing.specs.Grouped.{GroupAt}
+use Rattle.timing.proofs.Tabled.{LawsOf, rows_sound}
 use Rattle.timing.proofs.Arriving.{lines_at, own_nodes, nodes_below, later, Firsts, first_next}
 
 -- ---- columns
@@ -92,10 +96,10 @@ module _ {M : Type 0} (w size : ℕ) (row : M → Row w) where
 module _ {M : Type 0} (w : ℕ) (row : M → Row w) where
   pub asks_within : (none : Row w) (ts : List (sheets.Timed (Row w))) (ls : List Line) (ys : List M) → ls ≡ map line_of ts → map row ys ≡ map (required_of none) ts
       → ((t : sheets.Timed (Row w)) (u : sheets.Told (Row w)) → In t ts → t.required ≡ Some u → Bounded w 256000000 u.row) → AsksWithin w row ls ys
-  asks_within none ts ls ys e q near = subst (λ (l : List Line). AsksWithin w row l ys) (sym e) (asks_near w 256000000 row none ts ys q near)
+  asks_within none ts ls ys e q near = subst (λ (l : List Line). AsksWithin w row l ys) (sym e) (λ j y h i f. from_bounded w 256000000 (row y) (asks_near w 256000000 row none ts ys q near j y h i f))
 
   pub times_within : (A : List (sheets.Line (Row w))) (xs : List M) → map row xs ≡ map (λ l. l.arrival) A → Near w 256000000 A → TimesWithin w row xs
-  times_within A xs p near = times_near w 256000000 row A xs p near
+  times_within A xs p near = λ j x h e. from_bounded w 256000000 (row x) (times_near w 256000000 row A xs p near j x h e)
 
 -- ---- the lines of each node
 module _ {R : Type 0} where
@@ -160,33 +164,39 @@ module _ {R : Type 0} (m : Rows R) (b : RowBlock R) (laws : Laws m) where
       }
 
 -- ---- the tables, once every line has its required time
-module _ {M : Type 0} (w : ℕ) (not_later : Row w → Row w → Bool) (order : Order w not_later) (row : M → Row w) (b : RowBlock (Row w)) (n : ℕ) (sound : Sound (Bounded w 1000000) b n) (none : Row w)
-    (firsts : List ℕ) (old ls : List Line) (xs ys : List M) (arrived : Arrived row (measured w not_later) b n old xs firsts (length old))
-    (lines_are : ls ≡ map line_of (sheet (measured w not_later) b n)) (required-are : map row ys ≡ map (required_of none) (sheet (measured w not_later) b n)) where
+module _ {M : Type 0} (measure : Measure M) (laws : LawsOf measure) (t : TimedBlock) (firsts : List ℕ) (old ls : List Line) (xs ys : List M)
+    (arrived : Arrived measure.row (measured measure) (rows_of measure t) 256 old xs firsts (length old)) (lines_are : ls ≡ map line_of (sheet (measured measure) (rows_of measure t) 256))
+    (required-are : map measure.row ys ≡ map (required_of (zeros measure.width)) (sheet (measured measure) (rows_of measure t) 256)) where
+  abbrev w : ℕ
+  w = measure.width
+
   abbrev m : Rows (Row w)
-  m = measured w not_later
+  m = measured measure
 
-  abbrev known : Given m b n
-  known = given w not_later order b n sound
+  abbrev b : RowBlock (Row w)
+  b = rows_of measure t
 
-  arrivals_are : map row xs ≡ map (λ l. l.arrival) (arrivals m b n)
-  arrivals_are = front_column row (length old) old xs (arrivals m b n) refl arrived.even arrived.stand
+  abbrev known : Given m b 256
+  known = given w measure.not_later laws.order b 256 (rows_sound measure t laws)
 
-  near : Near w 256000000 (arrivals m b n)
+  arrivals_are : map measure.row xs ≡ map (λ l. l.arrival) (arrivals m b 256)
+  arrivals_are = front_column measure.row (length old) old xs (arrivals m b 256) refl arrived.even arrived.stand
+
+  near : Near w 256000000 (arrivals m b 256)
   near =
-      in_all (λ (l : sheets.Line (Row w)). Bounded w 256000000 l.arrival) (arrivals m b n)
+      in_all (λ (l : sheets.Line (Row w)). Bounded w 256000000 l.arrival) (arrivals m b 256)
       (λ l i.
-      let r = arrivals_right m b known.laws n l i in
+      let r = arrivals_right m b known.laws 256 l i in
       far_bounded w 256000000 l.arrival ((tame known).reached l.node l.tag l.arrival (omega (arith, r.node_below, known.few)) r.reached))
 
-  pub sheet_grouped : (v : ℕ) → v < n → GroupAt ls firsts v
-  sheet_grouped = grouped m b known.laws n firsts ls arrived.firsts_are (ap (map (λ l. l.node)) lines_are ∙ timed_nodes m b 0 (arrivals m b n))
+  pub sheet_grouped : (v : ℕ) → v < 256 → GroupAt ls firsts v
+  sheet_grouped = grouped m b known.laws 256 firsts ls arrived.firsts_are (ap (map (λ l. l.node)) lines_are ∙ timed_nodes m b 0 (arrivals m b 256))
 
-  pub sheet_asks : AsksWithin w row ls ys
-  sheet_asks = asks_within w row none (sheet m b n) ls ys lines_are required-are (λ t u i r. far_bounded w 256000000 u.row (required_near m b n known t u i r))
+  pub sheet_asks : AsksWithin w measure.row ls ys
+  sheet_asks = asks_within w measure.row m.origin (sheet m b 256) ls ys lines_are required-are (λ t u i r. far_bounded w 256000000 u.row (required_near m b 256 known t u i r))
 
-  pub sheet_times : TimesWithin w row xs
-  sheet_times = times_within w row (arrivals m b n) xs arrivals_are near
+  pub sheet_times : TimesWithin w measure.row xs
+  sheet_times = times_within w measure.row (arrivals m b 256) xs arrivals_are near
 
-  pub sheet_timeds : timeds row ls xs ys ≡ sheet m b n
-  sheet_timeds = columns_are row none (sheet m b n) ls xs ys lines_are (arrivals_are ∙ timed_arrivals m b 0 (arrivals m b n)) required-are
+  pub sheet_timeds : timeds measure.row ls xs ys ≡ sheet m b 256
+  sheet_timeds = columns_are measure.row m.origin (sheet m b 256) ls xs ys lines_are (arrivals_are ∙ timed_arrivals m b 0 (arrivals m b 256)) required-are

@@ -5,6 +5,8 @@ use borrow.Rule.Slice.PartMut.{put_mid}
 use Rattle.std.specs.List.{AllByRecursion}
 use Rattle.std.proofs.lemmas.List.{take_at, drop_at, take_rest, drop_all, drop-drop, append-nil, length-take-le, length-drop, length-append}
 use Rattle.std.proofs.lemmas.Bool.{eq-eqb, ne_eqb}
+use Rattle.measure.specs.declared.measure.Measure.{Ghosts as Measure}
+use Rattle.measure.specs.Rows.{Row}
 use Rattle.paths.specs.Rows.{Rows}
 use Rattle.paths.specs.Tags.{apart}
 use Rattle.paths.specs.Sheets as sheets
@@ -14,7 +16,7 @@ use Rattle.timing.specs.declared.crossing.Crossing.{Crossing}
 use Rattle.graph.specs.Sorting.{segment}
 use Rattle.sheet.specs.Lines.{past_line}
 use Rattle.timing.specs.Lines.{view, views, front, behind, Fills, Stands, Filled}
-use Rattle.timing.specs.Crossings.{crossing_tag, crossing_line, crossed}
+use Rattle.timing.specs.Crossings.{crossing_tag, crossing_line, crossed, Near, Entering}
 use Rattle.timing.proofs.Entering.{entered_append, entered_grows, length_front}
 
 -- ---- what stands after a write to the end, from a on
@@ -79,6 +81,15 @@ module _ {M R : Type 0} (row : M → R) where
   all_at P (suc base) zero (l ∷ ls) (x ∷ xs) y h b e r a = subst (λ z. P (view row l z)) (sym r) a.0
   all_at P (suc base) (suc i) (l ∷ ls) (x ∷ xs) y h b e r a = all_at P base i ls xs y (omega arith) (omega arith) (omega arith) r a.1
 
+-- more lines may enter
+pub entering_on : {M : Type 0} (m : Measure M) (base j n : ℕ) (l0 l1 : List Line) (x0 x1 : List M) (t : List (sheets.Line (Row m.width))) → Entering m base j l0 x0 → Stands m.row base l0 x0 t l1 x1 n → Entering m base n l1 x1
+entering_on m base j n l0 l1 x0 x1 t e s = record {
+  few = e.few;
+  room = omega (arith, s.room, s.lines_length);
+  even = s.times_length ∙ sym s.lines_length;
+  near = subst (λ (ls : List (sheets.Line (Row m.width))). Near m.width 256000000 ls) (sym (front_same m.row base l0 l1 x0 x1 t n s)) e.near;
+}
+
 -- ---- segments
 segment_add : {X : Type 0} (a n k : ℕ) (xs : List X) → segment a (n + k) xs ≡ segment a n xs ++ segment (a + n) k xs
 segment_add a n k xs = take-add n k (drop a xs) ∙ ap (λ l. take n (drop a xs) ++ take k l) (drop-drop n a xs)
@@ -139,13 +150,6 @@ module _ {M R : Type 0} (row : M → R) (m : Rows R) where
       let eq : c ∷ [] ≡ crossed m h i (segment i 1 (front row base ls xs)) =
       ap (λ k. k ∷ []) ce ∙ sym (ap (crossed m h i) (front_at row base i ls xs y b l e is) ∙ crossed_passed m h i v d) in
       subst (λ (cs : List (sheets.Line R)). Filled row base ls xs (entered m cs (behind row base n ls xs)) ls' xs' r) eq f
-
-  -- the loop: one more line, the last of them, and no room
-  pub crossing_none : (h : Crossing R) (a base n : ℕ) (ls : List Line) (xs : List M) → base + n ≤ length ls → length xs ≡ length ls
-      → Stands row base ls xs (entered m (crossed m h a (segment a (a - a) (front row base ls xs))) (behind row base n ls xs)) ls xs n
-  crossing_none h a base n ls xs r e =
-      let z : a - a ≡ 0 = omega arith in
-      subst (λ k. Stands row base ls xs (entered m (crossed m h a (segment a k (front row base ls xs))) (behind row base n ls xs)) ls xs n) (sym z) (stands_none row base n ls xs r e)
 
   abbrev pub sofar : Crossing R → ℕ → ℕ → ℕ → ℕ → List Line → List M → List (sheets.Line R)
   sofar h a i base n ls xs = entered m (crossed m h a (segment a (i - a) (front row base ls xs))) (behind row base n ls xs)

@@ -1,7 +1,7 @@
 -- The sets that begin and end at the nodes, from those of the arcs.
-use Rattle.std.proofs.Common.{◌≡◌, ℕ, zero, suc, ◌+◌, ◌-◌, ◌/◌, ◌%◌, ◌^◌, ◌<◌, ◌≤◌, Bool, true, false, cond, not, ◌&&◌, ◌||◌, eqb, List, [], ◌∷◌, length, get_or, take, set, Some, None, Option, sym, refl, ap, ◌∙◌, ap₂, ⊎_elim, pow-suc, add-one, arith}
+use Rattle.std.proofs.Common.{◌≡◌, ℕ, zero, suc, ◌+◌, ◌-◌, ◌/◌, ◌%◌, ◌^◌, ◌<◌, Bool, true, false, cond, not, ◌&&◌, ◌||◌, eqb, List, [], ◌∷◌, length, get_or, take, set, Some, None, Option, sym, refl, ap, ◌∙◌, ap₂, ⊎_elim, pow-suc, add-one, arith}
 use lib.Bits.{bit_and, bit_or, and_le_l}
-use Rattle.std.proofs.lemmas.List.{get_or-set_same, get_or-set_other}
+use Rattle.std.proofs.lemmas.List.{get_or-set_same, get_or-set_other, length-set}
 use Rattle.std.proofs.lemmas.Bool.{eq-eqb, ne_eqb, cases_eq}
 use Rattle.graph.specs.declared.parts.LiveArc.{LiveArc}
 use Rattle.graph.specs.declared.parts.ArcEnd.{ArcEnd}
@@ -11,7 +11,7 @@ use Rattle.paths.specs.Tags.{set_count, has, tag_of}
 use Rattle.paths.specs.Blocks.{any, leaves, enters, begin_sets, end_sets}
 use Rattle.paths.proofs.TagLaws.{has_and, has_or}
 use Rattle.timing.specs.WithRows.{bare}
-use Rattle.timing.specs.Masks.{at_node, Gathered, with_sets}
+use Rattle.timing.specs.Masks.{at_node, Gathered, with_sets, sets_without, Masked}
 use Rattle.timing.proofs.Blocks.{tag_of_same, leaves_with, enters_with}
 
 -- ---- tags by their bits
@@ -72,6 +72,10 @@ pub gathered_none : (end : ArcEnd) (os : List (Option LiveArc)) (masks : List �
 gathered_none end [] masks z h v i l = ap (λ x. has x i) (z v l) ∙ h i
 gathered_none end (o ∷ os) masks z h v i l = ap (λ x. has x i) (z v l) ∙ h i
 
+pub length-with_sets : (end : ArcEnd) (o : Option LiveArc) (masks : List ℕ) → length (with_sets end o masks) ≡ length masks
+length-with_sets end None masks = refl
+length-with_sets end (Some e) masks = length-set masks (node_at end e) (bit_or (get_or masks (node_at end e) 0) e.sets)
+
 pub gathered_more : (end : ArcEnd) (os : List (Option LiveArc)) (masks : List ℕ) (n : ℕ) → length masks ≡ 256 → Gathered end (take n os) masks → Gathered end (take (n + 1) os) (with_sets end (get_or os n None) masks)
 gathered_more end os masks n s g v i l =
     go (get_or os n None) ∙ sym (any_more (at_node end v i) refl os n) ∙ ap (λ k. any (at_node end v i) (take k os)) (sym (add-one n))
@@ -100,52 +104,26 @@ gathered_more end os masks n s g v i l =
 pub gathered_all : (end : ArcEnd) (os : List (Option LiveArc)) (masks : List ℕ) (n : ℕ) → ((k : ℕ) (e : LiveArc) → get_or os k None ≡ Some e → k < n) → Gathered end (take n os) masks → Gathered end os masks
 gathered_all end os masks n h g v i l = g v i l ∙ any_all (at_node end v i) refl os n h
 
--- ---- a ∧ ¬b is the tag with the bits of a that b has not
-and_not : (a b : ℕ) (f g : ℕ → Bool) → a < 65536 → b < 65536 → ((i : ℕ) → has a i ≡ f i) → ((i : ℕ) → has b i ≡ g i) → bit_and a (65535 - b) ≡ tag_of set_count (λ i. f i && not (g i))
-and_not a b f g ha hb fa gb =
+-- ---- a ∧ ¬b is the sets of a without those of b
+pub and_not : (a b : ℕ) → a < 65536 → b < 65536 → bit_and a (65535 - b) ≡ sets_without b a
+and_not a b ha hb =
     sym (tag_of_has 16 (bit_and a (65535 - b)) (omega (arith, and_le_l a (65535 - b))))
-    ∙ tag_of_same 16 (has (bit_and a (65535 - b))) (λ i. f i && not (g i))
-    (λ i l. has_and i a (65535 - b) ∙ ap₂ (λ p q. p && q) (fa i) (has_not 16 b i hb l ∙ ap not (gb i)))
+    ∙ tag_of_same 16 (has (bit_and a (65535 - b))) (λ i. has a i && not (has b i)) (λ i l. has_and i a (65535 - b) ∙ ap (λ q. has a i && q) (has_not 16 b i hb l))
 
-begins_there : (os : List (Option LiveArc)) (v a b : ℕ) → a < 65536 → b < 65536 → ((i : ℕ) → has a i ≡ any (at_node Tail v i) os) → ((i : ℕ) → has b i ≡ any (at_node Head v i) os)
-    → bit_and a (65535 - b) ≡ begin_sets (bare os) v
-unfolding begin_sets
-begins_there os v a b ha hb f g =
-    and_not a b (λ i. leaves (bare os) i v) (λ i. enters (bare os) i v) ha hb (λ i. f i ∙ sym (leaves_with tt [] i v 0 os)) (λ i. g i ∙ sym (enters_with tt [] i v 0 os))
+-- the sets at the nodes, apart from each other
+module _ (os : List (Option LiveArc)) (outs ins : List ℕ) (leaving : Gathered Tail os outs) (entering : Gathered Head os ins) where
+  begins_there : (v : ℕ) → v < 256 → sets_without (get_or ins v 0) (get_or outs v 0) ≡ begin_sets (bare os) v
+  unfolding begin_sets
+  begins_there v h =
+      tag_of_same set_count _ (λ i. leaves (bare os) i v && not (enters (bare os) i v))
+      (λ i _. ap₂ (λ p q. p && not q) (leaving v i h ∙ sym (leaves_with tt [] i v 0 os)) (entering v i h ∙ sym (enters_with tt [] i v 0 os)))
 
-ends_there : (os : List (Option LiveArc)) (v a b : ℕ) → a < 65536 → b < 65536 → ((i : ℕ) → has a i ≡ any (at_node Tail v i) os) → ((i : ℕ) → has b i ≡ any (at_node Head v i) os)
-    → bit_and b (65535 - a) ≡ end_sets (bare os) v
-unfolding end_sets
-ends_there os v a b ha hb f g =
-    and_not b a (λ i. enters (bare os) i v) (λ i. leaves (bare os) i v) hb ha (λ i. g i ∙ sym (enters_with tt [] i v 0 os)) (λ i. f i ∙ sym (leaves_with tt [] i v 0 os))
+  ends_there : (v : ℕ) → v < 256 → sets_without (get_or outs v 0) (get_or ins v 0) ≡ end_sets (bare os) v
+  unfolding end_sets
+  ends_there v h =
+      tag_of_same set_count _ (λ i. enters (bare os) i v && not (leaves (bare os) i v))
+      (λ i _. ap₂ (λ p q. q && not p) (leaving v i h ∙ sym (leaves_with tt [] i v 0 os)) (entering v i h ∙ sym (enters_with tt [] i v 0 os)))
 
--- ---- the loop over the nodes
-pub record Parted (os : List (Option LiveArc)) (v : ℕ) (bs ns outs ins : List ℕ) : Type 0 where
-  pub begins : (u : ℕ) → u < v → get_or bs u 0 ≡ begin_sets (bare os) u
-  pub ends : (u : ℕ) → u < v → get_or ns u 0 ≡ end_sets (bare os) u
-  pub outs_left : (u : ℕ) → v ≤ u → get_or bs u 0 ≡ get_or outs u 0
-  pub ins_left : (u : ℕ) → v ≤ u → get_or ns u 0 ≡ get_or ins u 0
-
-pub parted_none : (os : List (Option LiveArc)) (outs ins : List ℕ) → Parted os 0 outs ins outs ins
-parted_none os outs ins = record { begins = λ u h. absurd (omega arith); ends = λ u h. absurd (omega arith); outs_left = λ u h. refl; ins_left = λ u h. refl }
-
-pub parted_more : (os : List (Option LiveArc)) (v : ℕ) (bs ns outs ins : List ℕ) → v < 256 → length bs ≡ 256 → length ns ≡ 256 → get_or bs v 0 < 65536 → get_or ns v 0 < 65536
-    → Gathered Tail os outs → Gathered Head os ins → Parted os v bs ns outs ins
-    → Parted os (v + 1) (set bs v (bit_and (get_or bs v 0) (65535 - get_or ns v 0))) (set ns v (bit_and (get_or ns v 0) (65535 - get_or bs v 0))) outs ins
-parted_more os v bs ns outs ins l lb ln fb fn leaving entering p =
-    let f = λ (i : ℕ). ap (λ x. has x i) (p.outs_left v (omega arith)) ∙ leaving v i l in
-    let g = λ (i : ℕ). ap (λ x. has x i) (p.ins_left v (omega arith)) ∙ entering v i l in
-    let x = bit_and (get_or bs v 0) (65535 - get_or ns v 0) in
-    let y = bit_and (get_or ns v 0) (65535 - get_or bs v 0) in
-    record {
-      begins = λ u h. ⊎_elim
-          (λ e. ap (λ w. get_or (set bs v x) w 0) e ∙ get_or-set_same bs v x 0 (omega arith) ∙ begins_there os v (get_or bs v 0) (get_or ns v 0) fb fn f g ∙ ap (begin_sets (bare os)) (sym e))
-          (λ n. get_or-set_other bs v u x 0 n ∙ p.begins u (omega (arith, n)))
-          (cases_eq u v);
-      ends = λ u h. ⊎_elim
-          (λ e. ap (λ w. get_or (set ns v y) w 0) e ∙ get_or-set_same ns v y 0 (omega arith) ∙ ends_there os v (get_or bs v 0) (get_or ns v 0) fb fn f g ∙ ap (end_sets (bare os)) (sym e))
-          (λ n. get_or-set_other ns v u y 0 n ∙ p.ends u (omega (arith, n)))
-          (cases_eq u v);
-      outs_left = λ u h. get_or-set_other bs v u x 0 (λ e. omega arith) ∙ p.outs_left u (omega arith);
-      ins_left = λ u h. get_or-set_other ns v u y 0 (λ e. omega arith) ∙ p.ins_left u (omega arith);
-    }
+  pub parted : (begins ends : List ℕ) → ((v : ℕ) → v < 256 → get_or begins v 0 ≡ sets_without (get_or ins v 0) (get_or outs v 0))
+      → ((v : ℕ) → v < 256 → get_or ends v 0 ≡ sets_without (get_or outs v 0) (get_or ins v 0)) → Masked os begins ends
+  parted begins ends b e = record { begins_are = λ v h. b v h ∙ begins_there v h; ends_are = λ v h. e v h ∙ ends_there v h }

@@ -1,45 +1,37 @@
 -- The steps of the arrival pass.
-use Rattle.std.proofs.Common.{◌≡◌, ℕ, zero, suc, ◌+◌, ◌<◌, ◌≤◌, Bool, List, [], ◌∷◌, ◌++◌, length, get_or, set, Some, None, Option, sym, refl, ap, ◌∙◌, subst, ap₂, ⊎_elim, arith}
+use Rattle.std.proofs.Common.{◌≡◌, ℕ, zero, suc, ◌+◌, ◌<◌, ◌≤◌, List, [], ◌∷◌, ◌++◌, map, length, get_or, set, Some, Option, sym, refl, ap, ◌∙◌, subst, subst₂, ap₂, ⊎_elim, arith}
 use Rattle.std.specs.List.{flat_map}
 use Rattle.std.proofs.lemmas.List.{length-append, get_or-set_same, get_or-set_other}
 use Rattle.std.proofs.lemmas.Bool.{cases_eq}
+use Rattle.measure.specs.declared.measure.Measure.{Ghosts as Measure}
 use Rattle.measure.specs.Rows.{Row, Bounded}
-use Rattle.measure.specs.Laws.{Order}
 use Rattle.graph.specs.declared.parts.LiveArc.{LiveArc}
 use Rattle.graph.specs.declared.parts.ArcEnd.TheVariants.{Head}
-use Rattle.graph.specs.Index.{numbers_at}
-use Rattle.paths.specs.Rows.{Rows, rows as measured}
+use Rattle.graph.specs.declared.store.ArcIndex.{ArcIndex}
+use Rattle.graph.specs.Index.{listed, Indexes}
+use Rattle.paths.specs.Rows.{Rows}
 use Rattle.paths.specs.Blocks.{RowBlock}
 use Rattle.paths.specs.Sheets as sheets
 use Rattle.paths.specs.Sheets.{started, entered, arrivals}
-use Rattle.paths.specs.Sound.{Sound}
 use Rattle.paths.proofs.RowLaws.{Laws}
 use Rattle.paths.proofs.Small.{tame}
 use Rattle.paths.proofs.Choosing.{in_all}
-use Rattle.paths.proofs.Joining.{given, far_bounded}
+use Rattle.paths.proofs.Joining.{laws_of, given, far_bounded}
 use Rattle.paths.proofs.Arriving.{arrivals_right}
 use Rattle.sheet.specs.declared.line.Line.{Line}
-use Rattle.timing.specs.Lines.{view, front, behind, Stands, Filled}
+use Rattle.timing.specs.Lines.{view, front, behind, Stands}
 use Rattle.timing.specs.Crossings.{Near}
-use Rattle.timing.specs.WithRows.{arcs_with}
-use Rattle.timing.specs.Bringing.{AllReady, brought}
-use Rattle.timing.specs.Arrived.{Arrived}
+use Rattle.timing.specs.declared.block.TimedBlock.{TimedBlock}
+use Rattle.timing.specs.Measured.{measured}
+use Rattle.timing.specs.TimedBlock.{arcs_in, rows_of, brings}
+use Rattle.timing.specs.Bringing.{AllReady}
+use Rattle.timing.specs.Arrived.{Arrived, Arrives}
 use Rattle.timing.proofs.Entering.{entered_append, entered_grows, length_front}
-use Rattle.timing.proofs.Crossed.{stands_then, front_same}
+use Rattle.timing.proofs.Crossed.{front_same}
+use Rattle.timing.proofs.Tabled.{LawsOf, rows_sound}
 use Rattle.timing.proofs.Arriving.{lines_at, arrivals_grow, into_is, all_ready}
 
 module _ {M R : Type 0} (row : M → R) (m : Rows R) where
-  -- first lines cs, and then what G brings from the lines in front
-  pub arrive_then : (G : List (sheets.Line R) → List (sheets.Line R)) (cs : List (sheets.Line R)) (base : ℕ) (l0 l1 l2 : List Line) (x0 x1 x2 : List M) (n : ℕ) (r : Option ℕ)
-      → Stands row base l0 x0 (entered m cs []) l1 x1 n
-      → Filled row base l1 x1 (entered m (G (front row base l1 x1)) (behind row base n l1 x1)) l2 x2 r
-      → Filled row base l0 x0 (entered m (cs ++ G (front row base l0 x0)) []) l2 x2 r
-  arrive_then G cs base l0 l1 l2 x0 x1 x2 n r s f =
-      let eq : entered m (G (front row base l1 x1)) (behind row base n l1 x1) ≡ entered m (cs ++ G (front row base l0 x0)) [] =
-      ap₂ (λ p q. entered m (G p) q) (front_same row base l0 l1 x0 x1 (entered m cs []) n s) s.stand ∙ sym (entered_append m cs (G (front row base l0 x0)) []) in
-      stands_then row base l0 l1 l2 x0 x1 x2 (entered m cs []) (entered m (cs ++ G (front row base l0 x0)) []) n r s
-      (subst (λ (t : List (sheets.Line R)). Filled row base l1 x1 t l2 x2 r) eq f)
-
   pub arrive_full : (cs ds : List (sheets.Line R)) (base k : ℕ) → k < base + length (entered m cs []) → k < base + length (entered m (cs ++ ds) [])
   arrive_full cs ds base k h = omega (arith, h, ap length (entered_append m cs ds []), entered_grows m ds (entered m cs []))
 
@@ -51,32 +43,66 @@ module _ {M R : Type 0} (row : M → R) (m : Rows R) where
       let z : suc a + n ≡ suc (a + n) = omega arith in
       ap (λ k. front row k (l ∷ ls) (x ∷ xs)) z ∙ ap (λ t. view row l x ∷ t) (front_add a n ls xs (omega arith) (omega arith))
 
-  -- ---- from node to node
-  module _ (b : RowBlock R) (laws : Laws m) (arcs : List (Option LiveArc)) (rows : List R) (q : b.arcs ≡ arcs_with m.origin rows 0 arcs)
-      (rising : (k : ℕ) (e : LiveArc) → get_or arcs k None ≡ Some e → e.from < e.to) where
+-- ---- from node to node
+module _ {M : Type 0} (measure : Measure M) (laws : LawsOf measure) (t : TimedBlock) where
+  abbrev R : Type 0
+  R = Row measure.width
+
+  abbrev row : M → R
+  row = measure.row
+
+  abbrev m : Rows R
+  m = measured measure
+
+  abbrev b : RowBlock R
+  b = rows_of measure t
+
+  abbrev arcs : List (Option LiveArc)
+  arcs = arcs_in t
+
+  abbrev rows : List R
+  rows = map measure.row_of_arc t.ticks
+
+  abbrev orders : Laws m
+  orders = laws_of measure.width measure.not_later laws.order
+
+  pub arrived_length : (v : ℕ) (firsts : List ℕ) (ls : List Line) (xs : List M) (base : ℕ) → Arrived row m b v ls xs firsts base → base ≡ length (arrivals m b v)
+  arrived_length v firsts ls xs base a = sym (length_front row m base ls xs a.fit a.even) ∙ ap length a.stand
+
+  pub arrived_all : (v : ℕ) (firsts : List ℕ) (ls : List Line) (xs : List M) (base : ℕ) → v ≡ 256 → Arrived row m b v ls xs firsts base → Arrives row m b ls xs firsts (Some base)
+  arrived_all v firsts ls xs base e a = let w = subst (λ u. Arrived row m b u ls xs firsts base) e a in (arrived_length 256 firsts ls xs base w, w)
+
+  -- from the node v to the next
+  module _ (heads : ArcIndex) (lists : Indexes Head arcs heads) (v : ℕ) (below : v < 256) (firsts : List ℕ) (ls : List Line) (xs : List M) (base : ℕ) (a : Arrived row m b v ls xs firsts base) where
     -- the lines of v, as they are brought
-    abbrev pub coming : ℕ → List ℕ → List Line → List M → ℕ → List (sheets.Line R)
-    coming v firsts ls xs base = entered m (started v (b.start v) ++ flat_map (brought m arcs rows firsts (front row base ls xs)) (numbers_at Head v 0 arcs)) []
+    abbrev pub coming : List (sheets.Line R)
+    coming = entered m (started v (b.start v) ++ flat_map (brings measure t firsts (front row base ls xs)) (listed heads v)) []
 
-    coming_is : (v : ℕ) (firsts : List ℕ) (ls : List Line) (xs : List M) (base : ℕ) → Arrived row m b v ls xs firsts base → coming v firsts ls xs base ≡ lines_at m b laws v
-    coming_is v firsts ls xs base a =
+    coming_is : coming ≡ lines_at m b orders v
+    coming_is =
         ap (λ cs. entered m (started v (b.start v) ++ cs) [])
-        (ap (λ A. flat_map (brought m arcs rows firsts A) (numbers_at Head v 0 arcs)) a.stand ∙ sym (into_is m b laws arcs rows q rising firsts v a.firsts_are))
+        (ap₂ (λ A ks. flat_map (brings measure t firsts A) ks) a.stand (lists v below) ∙ sym (into_is m b orders arcs rows refl t.graph.now.rising firsts v a.firsts_are))
 
-    pub arrived_length : (v : ℕ) (firsts : List ℕ) (ls : List Line) (xs : List M) (base : ℕ) → Arrived row m b v ls xs firsts base → base ≡ length (arrivals m b v)
-    arrived_length v firsts ls xs base a = sym (length_front row m base ls xs a.fit a.even) ∙ ap length a.stand
+    pub arrived_ready : AllReady arcs firsts base (listed heads v)
+    arrived_ready =
+        subst₂ (λ n (ks : List ℕ). AllReady arcs firsts n ks) (sym (arrived_length v firsts ls xs base a)) (sym (lists v below)) (all_ready m b orders arcs rows refl t.graph.now.rising firsts v a.firsts_are)
 
-    pub arrived_none : (firsts : List ℕ) (ls : List Line) (xs : List M) → get_or firsts 0 0 ≡ 0 → length xs ≡ length ls → Arrived row m b 0 ls xs firsts 0
-    arrived_none firsts ls xs z e =
-        record { stand = refl; fit = omega arith; even = e; firsts_are = λ u h. let s : u ≡ 0 = omega arith in ap (λ n. get_or firsts n 0) s ∙ z ∙ ap (λ n. length (arrivals m b n)) (sym s) }
+    -- each arrival is near zero
+    pub arrived_near : Near measure.width 256000000 (front row base ls xs)
+    arrived_near =
+        let known = given measure.width measure.not_later laws.order b 256 (rows_sound measure t laws) in
+        subst (λ (lines : List (sheets.Line R)). Near measure.width 256000000 lines) (sym a.stand)
+        (in_all (λ (l : sheets.Line R). Bounded measure.width 256000000 l.arrival) (arrivals m b v)
+        (λ l i.
+        let r = arrivals_right m b known.laws v l i in
+        far_bounded measure.width 256000000 l.arrival ((tame known).reached l.node l.tag l.arrival (omega (arith, r.node_below)) r.reached)))
 
-    pub arrived_more : (v : ℕ) (firsts : List ℕ) (ls ls' : List Line) (xs xs' : List M) (base n : ℕ) → v < 256 → length firsts ≡ 257 → Arrived row m b v ls xs firsts base
-        → Stands row base ls xs (coming v firsts ls xs base) ls' xs' n → Arrived row m b (v + 1) ls' xs' (set firsts (v + 1) (base + n)) (base + n)
-    arrived_more v firsts ls ls' xs xs' base n h lf a s =
+    pub arrived_more : (ls' : List Line) (xs' : List M) (n : ℕ) → length firsts ≡ 257 → Stands row base ls xs coming ls' xs' n → Arrived row m b (v + 1) ls' xs' (set firsts (v + 1) (base + n)) (base + n)
+    arrived_more ls' xs' n lf s =
         let z : v + 1 ≡ suc v = omega arith in
         let now-stands : front row (base + n) ls' xs' ≡ arrivals m b (v + 1) =
-        front_add base n ls' xs' (omega (arith, a.fit, s.lines_length)) (s.times_length ∙ sym s.lines_length)
-        ∙ ap₂ (λ x y. x ++ y) (front_same row base ls ls' xs xs' (coming v firsts ls xs base) n s ∙ a.stand) (s.stand ∙ coming_is v firsts ls xs base a)
+        front_add row m base n ls' xs' (omega (arith, a.fit, s.lines_length)) (s.times_length ∙ sym s.lines_length)
+        ∙ ap₂ (λ x y. x ++ y) (front_same row base ls ls' xs xs' coming n s ∙ a.stand) (s.stand ∙ coming_is)
         ∙ ap (arrivals m b) (sym z) in
         let fits : base + n ≤ length ls' = omega (arith, s.room, s.lines_length) in
         let evens : length xs' ≡ length ls' = s.times_length ∙ sym s.lines_length in
@@ -91,22 +117,6 @@ module _ {M R : Type 0} (row : M → R) (m : Rows R) where
               (cases_eq u (v + 1));
         }
 
-    pub arrived_full : (v : ℕ) (firsts : List ℕ) (ls : List Line) (xs : List M) (base : ℕ) → v < 256 → Arrived row m b v ls xs firsts base
-        → length ls < base + length (coming v firsts ls xs base) → length ls < length (arrivals m b 256)
-    arrived_full v firsts ls xs base h a f =
-        omega (arith, f, ap length (coming_is v firsts ls xs base a), arrived_length v firsts ls xs base a, length-append (arrivals m b v) (lines_at m b laws v), arrivals_grow m b laws v 256 h)
-
-    pub arrived_ready : (v : ℕ) (firsts : List ℕ) (ls : List Line) (xs : List M) (base : ℕ) → Arrived row m b v ls xs firsts base → AllReady arcs firsts base (numbers_at Head v 0 arcs)
-    arrived_ready v firsts ls xs base a =
-        subst (λ n. AllReady arcs firsts n (numbers_at Head v 0 arcs)) (sym (arrived_length v firsts ls xs base a)) (all_ready m b laws arcs rows q rising firsts v a.firsts_are)
-
--- each arrival is near zero
-pub arrivals_near : (w : ℕ) (not_later : Row w → Row w → Bool) → Order w not_later → (b : RowBlock (Row w)) → Sound (Bounded w 1000000) b 256 → (v : ℕ) → v ≤ 256
-    → Near w 256000000 (arrivals (measured w not_later) b v)
-arrivals_near w not_later order b sound v h =
-    let m = measured w not_later in
-    let known = given w not_later order b 256 sound in
-    in_all (λ (l : sheets.Line (Row w)). Bounded w 256000000 l.arrival) (arrivals m b v)
-    (λ l i.
-    let r = arrivals_right m b known.laws v l i in
-    far_bounded w 256000000 l.arrival ((tame known).reached l.node l.tag l.arrival (omega (arith, r.node_below)) r.reached))
+    pub arrived_full : length ls < base + length coming → length ls < length (arrivals m b 256)
+    arrived_full f =
+        omega (arith, f, ap length coming_is, arrived_length v firsts ls xs base a, length-append (arrivals m b v) (lines_at m b orders v), arrivals_grow m b orders v 256 below)

@@ -1,11 +1,9 @@
 -- What is asked of a line, step by step.
-use Rattle.std.proofs.Common.{◌≡◌, ℕ, zero, suc, ◌+◌, ◌-◌, ◌<◌, ◌≤◌, cond, List, [], ◌∷◌, ◌++◌, length, get_or, take, drop, Some, None, Option, sym, refl, ap, ◌∙◌, ap₂, arith}
-use lib.Bits.{bit_and}
-use Rattle.paths.specs.Tags.{apart}
-use Rattle.timing.specs.Crossings.{crossing_tag}
-use Rattle.std.specs.List.{flat_map}
-use Rattle.std.proofs.lemmas.List.{take_more, append-nil, append_assoc, get_or-drop, length-drop}
-use Rattle.std.proofs.lemmas.Bool.{eq-eqb, ne_eqb}
+use Rattle.std.proofs.Common.{◌≡◌, ℕ, zero, suc, ◌+◌, ◌<◌, ◌≤◌, Bool, true, false, cond, eqb, List, [], ◌∷◌, ◌++◌, length, get_or, take, drop, Some, None, Option, sym, refl, ap, ◌∙◌, ap₂, arith}
+use Rattle.std.specs.List.{flat_map, position, position_from}
+use Rattle.std.proofs.lemmas.List.{take_more, append-nil, append_assoc, get_or-take, get_or-drop, length-drop, length-take-le}
+use Rattle.std.proofs.lemmas.List.Quantifiers.{position-Some}
+use Rattle.std.proofs.lemmas.Iterator.Adapters.{position_from-zero}
 use Rattle.paths.specs.Rows.{Rows}
 use Rattle.paths.specs.Sheets as sheets
 use Rattle.paths.specs.Sheets.{least, first_least}
@@ -13,8 +11,15 @@ use Rattle.sheet.specs.declared.line.Line.{Line}
 use Rattle.timing.specs.declared.crossing.Crossing.{Crossing}
 use Rattle.graph.specs.Sorting.{segment}
 use Rattle.sheet.specs.Lines.{past_line}
+use Rattle.timing.proofs.Crossed.{some_at}
 use Rattle.timing.proofs.Bringing.{joined_append}
-use Rattle.timing.specs.Requiring.{Mark, mark_of, marks, as_list, pick, ask_of, asked_of}
+use Rattle.timing.specs.Requiring.{mark_of, marks, as_list, has_tag, pick, ask_of, asked_of}
+
+get_or-segment : {X : Type 0} (a n r : ℕ) (xs : List X) (d : X) → r < n → get_or (segment a n xs) r d ≡ get_or xs (a + r) d
+get_or-segment a n r xs d h = get_or-take n (drop a xs) r d h ∙ get_or-drop a xs r d
+
+pub found_below : (t a n : ℕ) (ls : List Line) (r : ℕ) → a + n ≤ length ls → Some r ≡ position (has_tag t) (segment a n ls) → r < n
+found_below t a n ls r le f = omega (arith, (position-Some (has_tag t) (segment a n ls) r past_line (sym f)).0, length-take-le n (drop a ls) (omega (arith, length-drop a ls)))
 
 module _ {M R : Type 0} (row : M → R) (m : Rows R) where
   pub marks_drop : (a : ℕ) (ls : List Line) (ys : List M) → length ys ≡ length ls → drop a (marks row ls ys) ≡ marks row (drop a ls) (drop a ys)
@@ -23,46 +28,70 @@ module _ {M R : Type 0} (row : M → R) (m : Rows R) where
   marks_drop (suc a) (l ∷ ls) [] e = absurd (omega arith)
   marks_drop (suc a) (l ∷ ls) (y ∷ ys) e = marks_drop a ls ys (omega arith)
 
-  asked_none : (h : Crossing R) (t j n : ℕ) (ls : List Line) (ys : List M) → n ≤ length ls → length ys ≡ length ls → ((k : ℕ) → k < n → (get_or ls k past_line).tag ≡ t → ⊥) → asked_of m h t j (take n (marks row ls ys)) ≡ None
-  asked_none h t j zero ls ys l e f = refl
-  asked_none h t j (suc n) [] ys l e f = absurd (omega arith)
-  asked_none h t j (suc n) (x ∷ ls) [] l e f = absurd (omega arith)
-  asked_none h t j (suc n) (x ∷ ls) (y ∷ ys) l e f =
-      ap (λ c. cond c (ask_of m h j (mark_of row x y).required) (asked_of m h t (suc j) (take n (marks row ls ys)))) (ne_eqb x.tag t (f 0 (omega arith)))
-      ∙ asked_none h t (suc j) n ls ys (omega arith) (omega arith) (λ k b. f (suc k) (omega arith))
+  marks_take : (n : ℕ) (ls : List Line) (ys : List M) → take n (marks row ls ys) ≡ marks row (take n ls) (take n ys)
+  marks_take zero ls ys = refl
+  marks_take (suc n) [] ys = refl
+  marks_take (suc n) (l ∷ ls) [] = refl
+  marks_take (suc n) (l ∷ ls) (y ∷ ys) = ap (λ t. mark_of row l y ∷ t) (marks_take n ls ys)
 
-  asked_found : (h : Crossing R) (t j n r : ℕ) (ls : List Line) (ys : List M) (y : M) → r < n → n ≤ length ls → length ys ≡ length ls → ((k : ℕ) → k < r → (get_or ls k past_line).tag ≡ t → ⊥) → (get_or ls r past_line).tag ≡ t → y ≡ get_or ys r y
-      → asked_of m h t j (take n (marks row ls ys)) ≡ ask_of m h (j + r) (mark_of row (get_or ls r past_line) y).required
-  asked_found h t j zero r ls ys y b l e f q i = absurd (omega arith)
-  asked_found h t j (suc n) r [] ys y b l e f q i = absurd (omega arith)
-  asked_found h t j (suc n) r (x ∷ ls) [] y b l e f q i = absurd (omega arith)
-  asked_found h t j (suc n) zero (x ∷ ls) (z ∷ ys) y b l e f q i =
+  marks_segment : (a n : ℕ) (ls : List Line) (ys : List M) → length ys ≡ length ls → segment a n (marks row ls ys) ≡ marks row (segment a n ls) (segment a n ys)
+  marks_segment a n ls ys e = ap (take n) (marks_drop a ls ys e) ∙ marks_take n (drop a ls) (drop a ys)
+
+  asked_none : (h : Crossing R) (t i j : ℕ) (ls : List Line) (ys : List M) → None ≡ position_from (has_tag t) i ls → asked_of m h t j (marks row ls ys) ≡ None
+  asked_none h t i j [] ys e = refl
+  asked_none h t i j (l ∷ ls) [] e = refl
+  asked_none h t i j (l ∷ ls) (y ∷ ys) e = go (eqb l.tag t) e (asked_none h t (i + 1) (suc j) ls ys)
+    where
+      rest : Option (sheets.Told R)
+      rest = asked_of m h t (suc j) (marks row ls ys)
+
+      go : (b : Bool) → None ≡ cond b (Some i) (position_from (has_tag t) (i + 1) ls) → (None ≡ position_from (has_tag t) (i + 1) ls → rest ≡ None) → cond b (ask_of m h j (mark_of row l y).required) rest ≡ None
+      go true f r = absurd (let z : ◌≡◌ {A = ℕ} 0 1 = cc in omega arith)
+      go false f r = r f
+
+  asked_found : (h : Crossing R) (t j r : ℕ) (ls : List Line) (ys : List M) (y : M) → r < length ls → length ys ≡ length ls → ((k : ℕ) → k < r → has_tag t (get_or ls k past_line) ≡ false) → has_tag t (get_or ls r past_line) ≡ true → y ≡ get_or ys r y
+      → asked_of m h t j (marks row ls ys) ≡ ask_of m h (j + r) (mark_of row (get_or ls r past_line) y).required
+  asked_found h t j r [] ys y b e f q i = absurd (omega arith)
+  asked_found h t j r (x ∷ ls) [] y b e f q i = absurd (omega arith)
+  asked_found h t j zero (x ∷ ls) (z ∷ ys) y b e f q i =
       let o : j ≡ j + 0 = omega arith in
-      ap (λ c. cond c (ask_of m h j (mark_of row x z).required) (asked_of m h t (suc j) (take n (marks row ls ys)))) (eq-eqb x.tag t q)
-      ∙ ap₂ (λ k w. ask_of m h k (mark_of row x w).required) o (sym i)
-  asked_found h t j (suc n) (suc r) (x ∷ ls) (z ∷ ys) y b l e f q i =
+      ap (λ c. cond c (ask_of m h j (mark_of row x z).required) (asked_of m h t (suc j) (marks row ls ys))) q ∙ ap₂ (λ k w. ask_of m h k (mark_of row x w).required) o (sym i)
+  asked_found h t j (suc r) (x ∷ ls) (z ∷ ys) y b e f q i =
       let o : suc j + r ≡ j + suc r = omega arith in
-      ap (λ c. cond c (ask_of m h j (mark_of row x z).required) (asked_of m h t (suc j) (take n (marks row ls ys)))) (ne_eqb x.tag t (f 0 (omega arith)))
-      ∙ asked_found h t (suc j) n r ls ys y (omega arith) (omega arith) (omega arith) (λ k c. f (suc k) (omega arith)) q i
+      ap (λ c. cond c (ask_of m h j (mark_of row x z).required) (asked_of m h t (suc j) (marks row ls ys))) (f 0 (omega arith))
+      ∙ asked_found h t (suc j) r ls ys y (omega arith) (omega arith) (λ k c. f (suc k) (omega arith)) q i
       ∙ ap (λ k. ask_of m h k (mark_of row (get_or ls r past_line) y).required) o
 
-  -- among the lines from a up to z, as `find` answers
-  pub line_none : (h : Crossing R) (t a z : ℕ) (ls : List Line) (ys : List M) → a ≤ z → z ≤ length ls → length ys ≡ length ls → ((k : ℕ) → a ≤ k → k < z → (get_or ls k past_line).tag ≡ t → ⊥)
-      → asked_of m h t a (segment a (z - a) (marks row ls ys)) ≡ None
-  line_none h t a z ls ys p l e f =
-      ap (λ xs. asked_of m h t a (take (z - a) xs)) (marks_drop a ls ys e)
-      ∙ asked_none h t a (z - a) (drop a ls) (drop a ys) (omega (arith, length-drop a ls)) (omega (arith, length-drop a ls, length-drop a ys)) (λ k b q. f (a + k) (omega arith) (omega arith) (ap (λ (x : Line). x.tag) (sym (get_or-drop a ls k past_line)) ∙ q))
+  -- among the n lines from a on
+  module _ (h : Crossing R) (t a n : ℕ) (ls : List Line) (ys : List M) (e : length ys ≡ length ls) where
+    pub line_none : None ≡ position (has_tag t) (segment a n ls) → None ≡ asked_of m h t a (segment a n (marks row ls ys))
+    line_none f = sym (ap (asked_of m h t a) (marks_segment a n ls ys e) ∙ asked_none h t 0 a (segment a n ls) (segment a n ys) (f ∙ position_from-zero (has_tag t) (segment a n ls)))
 
-  pub line_found : (h : Crossing R) (t a z r : ℕ) (ls : List Line) (ys : List M) (y : M) → a ≤ r → r < z → z ≤ length ls → length ys ≡ length ls → ((k : ℕ) → a ≤ k → k < r → (get_or ls k past_line).tag ≡ t → ⊥)
-      → (get_or ls r past_line).tag ≡ t → y ≡ get_or ys r y → asked_of m h t a (segment a (z - a) (marks row ls ys)) ≡ ask_of m h r (mark_of row (get_or ls r past_line) y).required
-  line_found h t a z r ls ys y p b l e f q i =
-      let o : a + (r - a) ≡ r = omega arith in
-      let at : get_or (drop a ls) (r - a) past_line ≡ get_or ls r past_line = get_or-drop a ls (r - a) past_line ∙ ap (λ k. get_or ls k past_line) o in
-      ap (λ xs. asked_of m h t a (take (z - a) xs)) (marks_drop a ls ys e)
-      ∙ asked_found h t a (z - a) (r - a) (drop a ls) (drop a ys) y (omega arith) (omega (arith, length-drop a ls)) (omega (arith, length-drop a ls, length-drop a ys))
-      (λ k c s. f (a + k) (omega arith) (omega arith) (ap (λ (x : Line). x.tag) (sym (get_or-drop a ls k past_line)) ∙ s))
-      (ap (λ (x : Line). x.tag) at ∙ q) (i ∙ ap (λ k. get_or ys k y) (sym o) ∙ sym (get_or-drop a ys (r - a) y))
-      ∙ ap₂ (λ k (x : Line). ask_of m h k (mark_of row x y).required) o at
+    line_found : (r : ℕ) (y : M) → a + n ≤ length ls → Some r ≡ position (has_tag t) (segment a n ls) → y ≡ get_or ys (a + r) y
+        → asked_of m h t a (segment a n (marks row ls ys)) ≡ ask_of m h (a + r) (mark_of row (get_or ls (a + r) past_line) y).required
+    line_found r y le f i =
+        let found = position-Some (has_tag t) (segment a n ls) r past_line (sym f) in
+        let long : length (segment a n ls) ≡ n = length-take-le n (drop a ls) (omega (arith, length-drop a ls)) in
+        let wide : length (segment a n ys) ≡ n = length-take-le n (drop a ys) (omega (arith, length-drop a ys, e)) in
+        let in_part : r < n = omega (arith, found.0, long) in
+        ap (asked_of m h t a) (marks_segment a n ls ys e)
+        ∙ asked_found h t a r (segment a n ls) (segment a n ys) y found.0 (wide ∙ sym long) found.2 found.1 (i ∙ sym (get_or-segment a n r ys y in_part))
+        ∙ ap (λ x. ask_of m h (a + r) (mark_of row x y).required) (get_or-segment a n r ls past_line in_part)
+
+    -- the line that is found has no required time, and has one
+    pub line_unasked : (r : ℕ) → a + n ≤ length ls → Some r ≡ position (has_tag t) (segment a n ls) → (get_or ls (a + r) past_line).required ≡ false → None ≡ asked_of m h t a (segment a n (marks row ls ys))
+    line_unasked r le f q =
+        let found = position-Some (has_tag t) (segment a n ls) r past_line (sym f) in
+        let y = some_at ys (a + r) (omega (arith, found.0, e, length-take-le n (drop a ls) (omega (arith, length-drop a ls)))) in
+        let l = get_or ls (a + r) past_line in
+        sym (line_found r y.0 le f y.1 ∙ ap (λ c. ask_of m h (a + r) (cond c (Some (record { row = row y.0; arc = l.fore_arc; line = l.fore_line })) None)) q)
+
+    pub line_asked : (r : ℕ) (y : M) (x : R) → a + n ≤ length ls → Some r ≡ position (has_tag t) (segment a n ls) → y ≡ get_or ys (a + r) y → (get_or ls (a + r) past_line).required ≡ true
+        → x ≡ m.plus (row y) (m.opposite h.row) → Some (record { row = x; arc = h.arc; line = a + r }) ≡ asked_of m h t a (segment a n (marks row ls ys))
+    line_asked r y x le f i q s =
+        let l = get_or ls (a + r) past_line in
+        ap (λ z. Some (record { row = z; arc = h.arc; line = a + r })) s
+        ∙ sym (line_found r y le f i ∙ ap (λ c. ask_of m h (a + r) (cond c (Some (record { row = row y; arc = l.fore_arc; line = l.fore_line })) None)) q)
 
 -- ---- one more that asks
 module _ {R : Type 0} (m : Rows R) where
@@ -86,21 +115,3 @@ module _ {R : Type 0} (m : Rows R) where
   pub asks_none : (o : Option (sheets.Told R)) → o ≡ first_least m (as_list o ++ [])
   asks_none None = refl
   asks_none (Some a) = refl
-
--- ---- over an arc
-module _ {R : Type 0} (m : Rows R) (firsts : List ℕ) (xs : List (Mark R)) (s : ℕ) where
-  abbrev pub asked_crossing : ℕ → Crossing R → Option (sheets.Told R)
-  asked_crossing to h =
-      let t = crossing_tag h s in
-      cond (apart t h.ends) (asked_of m h t (get_or firsts to 0) (segment (get_or firsts to 0) (get_or firsts (to + 1) 0 - get_or firsts to 0) xs)) None
-
-  pub crossing_passed : (to : ℕ) (h : Crossing R) (o : Option (sheets.Told R)) → bit_and (crossing_tag h s) h.ends ≡ 0
-      → o ≡ asked_of m h (crossing_tag h s) (get_or firsts to 0) (segment (get_or firsts to 0) (get_or firsts (to + 1) 0 - get_or firsts to 0) xs) → o ≡ asked_crossing to h
-  crossing_passed to h o e q =
-      q ∙ ap (λ c. cond c (asked_of m h (crossing_tag h s) (get_or firsts to 0) (segment (get_or firsts to 0) (get_or firsts (to + 1) 0 - get_or firsts to 0) xs)) None)
-      (sym (eq-eqb (bit_and (crossing_tag h s) h.ends) 0 e))
-
-  pub crossing_dropped : (to : ℕ) (h : Crossing R) → (bit_and (crossing_tag h s) h.ends ≡ 0 → ⊥) → None ≡ asked_crossing to h
-  crossing_dropped to h n =
-      ap (λ c. cond c (asked_of m h (crossing_tag h s) (get_or firsts to 0) (segment (get_or firsts to 0) (get_or firsts (to + 1) 0 - get_or firsts to 0) xs)) None)
-      (sym (ne_eqb (bit_and (crossing_tag h s) h.ends) 0 n))

@@ -34,9 +34,6 @@ module _ {R : Type 0} (m : Rows R) where
       ap (λ l. slack_of m k x x.required ++ l) (slacks_append (suc k) xs ys ∙ ap (λ n. slacks_of m (suc k) xs ++ slacks_of m n ys) z)
       ∙ sym (append_assoc (slack_of m k x x.required) (slacks_of m (suc k) xs) (slacks_of m (k + suc (length xs)) ys))
 
-  pub slacks_none : (a : ℕ) (ts : List (sheets.Timed R)) → None ≡ first_least m (slacks_of m a (segment a (a - a) ts))
-  slacks_none a ts = let z : a - a ≡ 0 = omega arith in ap (λ n. first_least m (slacks_of m a (segment a n ts))) (sym z)
-
   pub slacks_more : (a i : ℕ) (ts : List (sheets.Timed R)) (o : Option (sheets.Told R)) → a ≤ i → i ≤ length ts → as_list o ≡ slacks_of m i (segment i 1 ts)
       → pick m (first_least m (slacks_of m a (segment a (i - a) ts))) o ≡ first_least m (slacks_of m a (segment a ((i + 1) - a) ts))
   slacks_more a i ts o p q e =

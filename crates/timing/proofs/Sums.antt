@@ -1,7 +1,8 @@
 -- Sums of rows that are near zero are answered, and tick counts in range are read as they stand.
 use Rattle.std.proofs.Common.{◌≡◌, ℕ, ◌≤◌, true, ℤ, is_some, Some, None, Option, refl, ap, ◌∙◌, arith, w32, to_z, of_z}
 use Rattle.std.proofs.lemmas.Int.{ints, to_z-of_z}
-use Rattle.measure.specs.Rows.{Row, Bounded, on_some, plus, negated, summed}
+use Rattle.measure.specs.declared.measure.Measure.{Ghosts as Measure}
+use Rattle.measure.specs.Rows.{Bounded, on_some, plus, negated, summed}
 use Rattle.measure.specs.Bounds.{bounded_negated, summed_within}
 use Rattle.graph.specs.Ranges.{is_ticks}
 use Rattle.paths.proofs.Making.{ticks_within}
@@ -14,13 +15,16 @@ pub answer_is : {A B : Type 0} (f : A → B) (r : Option A) (y : B) (x : A) → 
 answer_is f None y x e r = absurd (let z : ◌≡◌ {A = ℕ} 0 1 = cc in omega arith)
 answer_is f (Some z) y x e r = cc
 
--- an arrival and a delay
-pub passing_sum : (w : ℕ) (a b : Row w) → Bounded w 256000000 a → Bounded w 1000000 b → summed w a b ≡ Some (plus w a b)
-passing_sum w a b ha hb = summed_within w 256000000 1000000 a b (omega arith) ha hb
+module _ {M : Type 0} (m : Measure M) (a : M) (near : Bounded m.width 256000000 (m.row a)) where
+  -- an arrival and a delay
+  pub passing_sum : (b : M) (r : Option M) → Bounded m.width 1000000 (m.row b) → on_some m.row r ≡ summed m.width (m.row a) (m.row b) → on_some m.row r ≡ Some (plus m.width (m.row a) (m.row b))
+  passing_sum b r small e = e ∙ summed_within m.width 256000000 1000000 (m.row a) (m.row b) (omega arith) near small
 
--- a required time less a delay, and less an arrival
-pub asking_sum : (w k : ℕ) (a b c : Row w) → k ≤ 256000000 → Bounded w 256000000 a → Bounded w k b → c ≡ negated w b → summed w a c ≡ Some (plus w a (negated w b))
-asking_sum w k a b c h ha hb e = ap (summed w a) e ∙ summed_within w 256000000 k a (negated w b) (omega arith) ha (bounded_negated w k b hb)
+  -- a required time less a delay, and less an arrival
+  pub asking_sum : (k : ℕ) (b c : M) (r : Option M) → k ≤ 256000000 → Bounded m.width k (m.row b) → m.row c ≡ negated m.width (m.row b) → on_some m.row r ≡ summed m.width (m.row a) (m.row c)
+      → on_some m.row r ≡ Some (plus m.width (m.row a) (negated m.width (m.row b)))
+  asking_sum k b c r h small n e =
+      e ∙ ap (summed m.width (m.row a)) n ∙ summed_within m.width 256000000 k (m.row a) (negated m.width (m.row b)) (omega arith) near (bounded_negated m.width k (m.row b) small)
 
 -- a tick count in range is read from its 32 bits
 pub read_ticks : (z : ℤ) → is_ticks z ≡ true → to_z w32 (of_z w32 z) ≡ z

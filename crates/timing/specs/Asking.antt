@@ -1,7 +1,8 @@
 -- What a source answers for the live arcs.
-use Rattle.std.specs.Prelude.{◌≡◌, ℕ, ◌<◌, List, ℤ, pos, Some, None, Ok, Err, Option, Result, MatchResult, slice_index_or, slice_set}
+use Rattle.std.specs.Prelude.{◌≡◌, ℕ, ◌<◌, true, List, ℤ, pos, Some, None, Ok, Err, Option, Result, MatchResult, slice_index_or, slice_set}
 use Rattle.delay.specs.Entries.{Entry}
 use Rattle.graph.specs.declared.parts.LiveArc.{LiveArc}
+use Rattle.graph.specs.Ranges.{is_ticks}
 use Rattle.graph.specs.Kept.{Live}
 use Rattle.paths.specs.Graphs.{Untimed, arc_ticks, by_node, arcs_in_ticks}
 use Rattle.timing.specs.declared.refusals.TimeRefusal.{TimeRefusal}
@@ -27,3 +28,7 @@ pub record HasTicks (means : ℕ → Entry) (ticks : List ℤ) (k : ℕ) (e : Li
 abbrev pub Asked : List (Option LiveArc) → (ℕ → Entry) → List ℤ → Result Unit TimeRefusal → Type 0
 Asked arcs means ticks r =
     MatchResult r (λ _. (k : ℕ) (e : LiveArc) → Live arcs k e → HasTicks means ticks k e) (λ x. (u : Untimed) × (arcs_in_ticks by_node means 0 arcs ≡ Err u) × (x ≡ stopped u))
+
+-- the ticks of each live arc are in range
+abbrev pub Ticked : List (Option LiveArc) → List ℤ → Type 0
+Ticked arcs ticks = (k : ℕ) (e : LiveArc) → Live arcs k e → is_ticks (slice_index_or ticks k (pos 0)) ≡ true

@@ -1,11 +1,14 @@
 -- The arrivals that an arc brings from the lines of its tail.
-use Rattle.std.specs.Prelude.{ℕ, suc, cond, List, [], ◌∷◌, bit_and, bit_or}
+use Rattle.std.specs.Prelude.{◌≡◌, ℕ, suc, ◌+◌, ◌≤◌, cond, List, [], ◌∷◌, length, bit_and, bit_or}
 use Rattle.std.specs.List.{AllByRecursion}
+use Rattle.measure.specs.declared.measure.Measure.{Ghosts as Measure}
 use Rattle.measure.specs.Rows.{Row, Bounded}
 use Rattle.paths.specs.Rows.{Rows}
 use Rattle.paths.specs.Tags.{apart}
 use Rattle.paths.specs.Sheets as sheets
+use Rattle.sheet.specs.declared.line.Line.{Line}
 use Rattle.timing.specs.declared.crossing.Crossing.{Crossing}
+use Rattle.timing.specs.Lines.{front}
 
 -- a crossing by the row that its delay means
 abbrev pub meant : {M R : Type 0} → (M → R) → Crossing M → Crossing R
@@ -27,3 +30,10 @@ crossed m h i (l ∷ ls) = let rest = crossed m h (suc i) ls in cond (apart (cro
 -- each arrival lies within k of zero
 abbrev pub Near : (w k : ℕ) → List (sheets.Line (Row w)) → Type 0
 Near w k ls = AllByRecursion (λ l. Bounded w k l.arrival) ls
+
+-- count lines stand behind the first base ones, whose arrivals are near zero
+pub record Entering {M : Type 0} (m : Measure M) (base count : ℕ) (ls : List Line) (xs : List M) : Type 0 where
+  pub few : base ≤ 4096
+  pub room : base + count ≤ length ls
+  pub even : length xs ≡ length ls
+  pub near : Near m.width 256000000 (front m.row base ls xs)

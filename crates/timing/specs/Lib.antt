@@ -1,3 +1,4 @@
+pub mod Measured
 pub mod Lines
 pub mod Passed
 pub mod Crossings
@@ -8,6 +9,7 @@ pub mod Arrived
 pub mod Refusals
 pub mod Asking
 pub mod Prepared
+pub mod TimedBlock
 pub mod Requiring
 pub mod Slacks
 pub mod Grouped

@@ -1,6 +1,6 @@
 -- What the lines beyond an arc ask before it, by the tables of a timing.
-use Rattle.std.specs.Prelude.{◌≡◌, ℕ, suc, ◌+◌, ◌-◌, ◌<◌, ◌≤◌, true, cond, List, [], ◌∷◌, length, get_or, Some, None, Option, ◌==◌, slice_index, slice_index_or}
-use Rattle.measure.specs.Rows.{Row, Bounded}
+use Rattle.std.specs.Prelude.{◌≡◌, ℕ, suc, ◌+◌, ◌-◌, ◌<◌, ◌≤◌, Bool, true, cond, List, [], ◌∷◌, length, get_or, Some, None, Option, ◌==◌, slice_index, slice_index_or}
+use Rattle.measure.specs.Rows.{Row, Bounded, bounded}
 use Rattle.graph.specs.declared.parts.LiveArc.{LiveArc}
 use Rattle.graph.specs.Sorting.{segment}
 use Rattle.paths.specs.Rows.{Rows, minus}
@@ -39,6 +39,10 @@ module _ {M R : Type 0} (row : M → R) where
   marks (l ∷ ls) [] = []
   marks (l ∷ ls) (y ∷ ys) = mark_of l y ∷ marks ls ys
 
+-- whether the line has the tag
+abbrev pub has_tag : ℕ → Line → Bool
+has_tag tag l = l.tag == tag
+
 module _ {R : Type 0} (m : Rows R) where
   -- the earlier of two, of equals the first
   abbrev pub pick : Option (sheets.Told R) → Option (sheets.Told R) → Option (sheets.Told R)
@@ -61,7 +65,7 @@ module _ {R : Type 0} (m : Rows R) where
     abbrev pub asked_through : List (Mark R) → ℕ → ℕ → Option LiveArc → Option (sheets.Told R)
     asked_through xs s k None = None
     asked_through xs s k (Some e) =
-        let h = crossing_of m arcs rows firsts k e in
+        let h = crossing_of m arcs rows k e in
         let t = crossing_tag h s in
         let first = get_or firsts e.to 0 in
         cond (apart t h.ends) (asked_of h t first (segment first (slice_index firsts (e.to + 1) - first) xs)) None
@@ -80,7 +84,7 @@ AllBeyond arcs firsts count ks = (i : ℕ) (e : LiveArc) → i < length ks → s
 
 -- no required time is beyond 256 million, to either side of zero
 abbrev pub AsksWithin : {M : Type 0} (w : ℕ) → (M → Row w) → List Line → List M → Type 0
-AsksWithin {M} w row ls ys = (j : ℕ) (y : M) → j < length ls → y ≡ slice_index_or ys j y → (get_or ls j past_line).required ≡ true → Bounded w 256000000 (row y)
+AsksWithin {M} w row ls ys = (j : ℕ) (y : M) → j < length ls → y ≡ slice_index_or ys j y → (get_or ls j past_line).required ≡ true → bounded w 256000000 (row y) ≡ true
 
 -- nor one of the lines from a up to z
 abbrev pub AsksBetween : {M : Type 0} (w : ℕ) → (M → Row w) → ℕ → ℕ → List Line → List M → Type 0

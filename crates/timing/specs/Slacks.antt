@@ -1,6 +1,6 @@
 -- The lines of the tables with their required times, and their slacks.
-use Rattle.std.specs.Prelude.{◌≡◌, ℕ, suc, ◌<◌, List, [], ◌∷◌, ◌++◌, length, slice_index_or}
-use Rattle.measure.specs.Rows.{Row, Bounded}
+use Rattle.std.specs.Prelude.{◌≡◌, ℕ, suc, ◌<◌, true, List, [], ◌∷◌, ◌++◌, length, slice_index_or}
+use Rattle.measure.specs.Rows.{Row, bounded}
 use Rattle.paths.specs.Rows.{Rows}
 use Rattle.paths.specs.Sheets as sheets
 use Rattle.paths.specs.Sheets.{slack_of}
@@ -26,4 +26,4 @@ slacks_of m k (t ∷ ts) = slack_of m k t t.required ++ slacks_of m (suc k) ts
 
 -- no time is beyond 256 million, to either side of zero
 abbrev pub TimesWithin : {M : Type 0} (w : ℕ) → (M → Row w) → List M → Type 0
-TimesWithin {M} w row xs = (j : ℕ) (x : M) → j < length xs → x ≡ slice_index_or xs j x → Bounded w 256000000 (row x)
+TimesWithin {M} w row xs = (j : ℕ) (x : M) → j < length xs → x ≡ slice_index_or xs j x → bounded w 256000000 (row x) ≡ true

@@ -1,24 +1,21 @@
 // The arrival pass: each node's lines, by rising node.
-ghost use Rattle.std.specs.Prelude.{◌≡◌, ◌≤◌, [], ◌++◌, map, length};
+ghost use Rattle.std.specs.Prelude.{◌≡◌, ◌≤◌, [], ◌++◌, length};
 ghost use Rattle.std.specs.List.{flat_map};
-ghost use Rattle.measure.specs.Rows.{Bounded, on_some, zeros};
-ghost use Rattle.graph.specs.declared.parts.ArcEnd.TheVariants.{Head};
-ghost use Rattle.graph.specs.Block.{block_of};
-ghost use Rattle.graph.specs.Index.{Indexes, listed};
-ghost use Rattle.paths.specs.Rows.{rows as measured};
+ghost use Rattle.measure.specs.Rows.{on_some};
+ghost use Rattle.graph.specs.Index.{listed};
 ghost use Rattle.paths.specs.Sheets.{started, entered};
-ghost use Rattle.paths.specs.Sound.{Sound};
+ghost use Rattle.timing.specs.Measured.{measured};
+ghost use Rattle.timing.specs.TimedBlock.{arcs_in, rows_of, brings};
 ghost use Rattle.timing.specs.Lines.{front, Filled};
-ghost use Rattle.timing.specs.Crossings.{Near};
-ghost use Rattle.timing.specs.WithRows.{block_with};
-ghost use Rattle.timing.specs.Bringing.{Masked, AllReady, Ticked, brought};
+ghost use Rattle.timing.specs.Crossings.{Entering};
+ghost use Rattle.timing.specs.Bringing.{AllReady};
 ghost use Rattle.timing.specs.Arrived.{Arrives};
 
+use crate::block::TimedBlock;
 use crate::bring::bring_all;
 use crate::cross::enter_behind;
 use crate::rows::time_row;
-use crate::tables::Tables;
-use graph::{ArcIndex, TimingGraph};
+use graph::{ArcEnd, ArcIndex};
 use measure::Measure;
 use sheet::Line;
 
@@ -32,19 +29,14 @@ fn start_line<M: Measure>(
 ) -> Option<usize>
     requires base_in_bounds { base ≤ length lines.old }
     requires times_len { length times.old ≡ length lines.old }
-    ensures { Filled M.Measure.row base lines.old times.old (entered (measured M.width M.not_later) (started node (on_some M.Measure.row start)) []) lines.new times.new result }
+    ensures { Filled M.Measure.row base lines.old times.old (entered (measured M.Measure) (started node (on_some M.Measure.row start)) []) lines.new times.new result }
 {
     let Some(time) = start else {
         return Some(0);
     };
     let line = Line {
         node: node as u16,
-        tag: 0,
-        back_arc: 1024,
-        back_line: 4096,
-        fore_arc: 1024,
-        fore_line: 4096,
-        required: false,
+        ..Line::BLANK
     };
     enter_behind(lines, times, base, 0, line, time)
 }
@@ -52,29 +44,22 @@ fn start_line<M: Measure>(
 // The lines of a node: its start's, and those that its arcs bring.
 fn arrive<M: Measure>(
     node: u8,
-    graph: &TimingGraph,
+    block: &TimedBlock,
     heads: &ArcIndex,
-    tables: &Tables,
-    firsts: &[u16],
+    firsts: &[u16; 257],
     lines: &mut [Line],
     times: &mut [M],
     base: usize,
 ) -> Option<usize>
-    requires firsts { length firsts.now ≡ 257 }
-    requires masked { Masked (block_of graph.now).arcs tables.now.begins tables.now.ends }
-    requires ready { AllReady (block_of graph.now).arcs firsts.now base (listed heads.now node) }
-    requires ticked { Ticked (block_of graph.now).arcs tables.now.ticks }
-    requires lines { base ≤ 4096 }
-    requires room { base ≤ length lines.old }
-    requires even { length times.old ≡ length lines.old }
-    requires near { Near M.width 256000000 (front M.Measure.row base lines.old times.old) }
-    ensures { Filled M.Measure.row base lines.old times.old (entered (measured M.width M.not_later) (started node ((block_with (zeros M.width) (map M.row_of_arc tables.now.ticks) M.row_of_time (block_of graph.now)).start node) ++ flat_map (brought (measured M.width M.not_later) (block_of graph.now).arcs (map M.row_of_arc tables.now.ticks) firsts.now (front M.Measure.row base lines.old times.old)) (listed heads.now node)) []) lines.new times.new result }
+    requires ready { AllReady (arcs_in block.now) firsts.now base (listed heads.now node) }
+    requires entering { Entering M.Measure base 0 lines.old times.old }
+    ensures { Filled M.Measure.row base lines.old times.old (entered (measured M.Measure) (started node ((rows_of M.Measure block.now).start node) ++ flat_map (brings M.Measure block.now firsts.now (front M.Measure.row base lines.old times.old)) (listed heads.now node)) []) lines.new times.new result }
 {
-    let count = start_line(node, time_row(graph.start(node)), lines, times, base)?;
+    let start = time_row(block.graph.start(node));
+    let count = start_line(node, start, lines, times, base)?;
     bring_all(
         heads.arcs_at(node),
-        graph,
-        tables,
+        block,
         firsts,
         lines,
         times,
@@ -85,26 +70,20 @@ fn arrive<M: Measure>(
 
 // The lines of all nodes with their arrivals, and where each node's lines begin. Answers how many lines there are, or nothing where the table has no room for them.
 pub(crate) fn arrive_all<M: Measure>(
-    graph: &TimingGraph,
-    heads: &ArcIndex,
-    tables: &Tables,
-    firsts: &mut [u16],
+    block: &TimedBlock,
+    firsts: &mut [u16; 257],
     lines: &mut [Line],
     times: &mut [M],
 ) -> Option<usize>
-    requires indexed { Indexes Head (block_of graph.now).arcs heads.now }
-    requires masked { Masked (block_of graph.now).arcs tables.now.begins tables.now.ends }
-    requires ticked { Ticked (block_of graph.now).arcs tables.now.ticks }
-    requires sound { Sound (Bounded M.width 1000000) (block_with (zeros M.width) (map M.row_of_arc tables.now.ticks) M.row_of_time (block_of graph.now)) 256 }
-    requires firsts { length firsts.old ≡ 257 }
     requires lines { length lines.old ≤ 4096 }
     requires even { length times.old ≡ length lines.old }
-    ensures { Arrives M.Measure.row (measured M.width M.not_later) (block_with (zeros M.width) (map M.row_of_arc tables.now.ticks) M.row_of_time (block_of graph.now)) lines.new times.new firsts.new result }
+    ensures { Arrives M.Measure.row (measured M.Measure) (rows_of M.Measure block.now) lines.new times.new firsts.new result }
 {
+    let heads = ArcIndex::by(ArcEnd::Head, block.graph);
     firsts[0] = 0;
     let mut base = 0;
-    for node in 0..256u16 {
-        base += arrive(node as u8, graph, heads, tables, firsts, lines, times, base)?;
+    for node in 0..=255u8 {
+        base += arrive(node, block, &heads, firsts, lines, times, base)?;
         firsts[node as usize + 1] = base as u16;
     }
     Some(base)

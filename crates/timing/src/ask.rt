@@ -1,5 +1,5 @@
 // The ticks of the live arcs, asked of a source.
-ghost use Rattle.std.specs.Prelude.{◌≡◌, ◌<◌, true, length, Some};
+ghost use Rattle.std.specs.Prelude.{◌≡◌, ◌<◌, true, Some};
 ghost use Rattle.graph.specs.Ranges.{is_ticks};
 ghost use Rattle.graph.specs.declared.parts.LiveArc.{LiveArc as Live};
 ghost use Rattle.graph.specs.Block.{block_of};
@@ -31,9 +31,8 @@ fn ask_arc<S: Source>(
     source: &mut S,
     number: u16,
     arc: Option<LiveArc>,
-    ticks: &mut [i32],
+    ticks: &mut [i32; 1024],
 ) -> Result<(), TimeRefusal>
-    requires size { length ticks.old ≡ 1024 }
     requires number { number < 1024 }
     requires trim { (e : Live) → arc ≡ Some e → is_ticks e.trim ≡ true }
     ensures asked { AskedOne number arc (S.means source.old) ticks.old ticks.new result }
@@ -51,9 +50,8 @@ fn ask_arc<S: Source>(
 pub(crate) fn ask_all<S: Source>(
     graph: &TimingGraph,
     source: &mut S,
-    ticks: &mut [i32],
+    ticks: &mut [i32; 1024],
 ) -> Result<(), TimeRefusal>
-    requires { length ticks.old ≡ 1024 }
     ensures asked { Asked (block_of graph.now).arcs (S.means source.old) ticks.new result }
     ensures same { S.means source.new ≡ S.means source.old }
     ensures level { S.depth source.new ≡ S.depth source.old }

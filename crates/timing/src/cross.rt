@@ -2,12 +2,12 @@
 ghost use Rattle.std.specs.Prelude.{◌≡◌, ◌+◌, ◌-◌, ◌<◌, ◌≤◌, length};
 ghost use Rattle.paths.specs.Sheets.{enter as entry, entered};
 ghost use Rattle.measure.specs.Rows.{Bounded};
-ghost use Rattle.paths.specs.Rows.{rows as measured};
 ghost use Rattle.graph.specs.Sorting.{segment};
+ghost use Rattle.timing.specs.Measured.{measured};
 ghost use Rattle.timing.specs.Lines.{view, front, behind, Filled};
-ghost use Rattle.timing.specs.Crossings.{meant, crossed, Near};
+ghost use Rattle.timing.specs.Crossings.{meant, crossed, Entering};
 
-use crate::crossing::{Crossing, pass};
+use crate::crossing::Crossing;
 use crate::enter::enter;
 use measure::Measure;
 use sheet::Line;
@@ -23,7 +23,7 @@ pub(crate) fn enter_behind<M: Measure>(
 ) -> Option<usize>
     requires count_in_bounds { base + count ≤ length lines.old }
     requires times_len { length times.old ≡ length lines.old }
-    ensures { Filled M.Measure.row base lines.old times.old (entry (measured M.width M.not_later) (view M.Measure.row line time) (behind M.Measure.row base count lines.old times.old)) lines.new times.new result }
+    ensures { Filled M.Measure.row base lines.old times.old (entry (measured M.Measure) (view M.Measure.row line time) (behind M.Measure.row base count lines.old times.old)) lines.new times.new result }
 {
     enter(&mut lines[base..], &mut times[base..], count, line, time)
 }
@@ -38,14 +38,11 @@ fn cross_line<M: Measure>(
     count: usize,
 ) -> Option<usize>
     requires i_lt_base { i < base }
-    requires base_bound { base ≤ 4096 }
-    requires count_in_bounds { base + count ≤ length lines.old }
-    requires times_len { length times.old ≡ length lines.old }
-    requires near { Near M.width 256000000 (front M.Measure.row base lines.old times.old) }
+    requires entering { Entering M.Measure base count lines.old times.old }
     requires bounded { Bounded M.width 1000000 (M.Measure.row crossing.row) }
-    ensures { Filled M.Measure.row base lines.old times.old (entered (measured M.width M.not_later) (crossed (measured M.width M.not_later) (meant M.Measure.row crossing) i (segment i 1 (front M.Measure.row base lines.old times.old))) (behind M.Measure.row base count lines.old times.old)) lines.new times.new result }
+    ensures { Filled M.Measure.row base lines.old times.old (entered (measured M.Measure) (crossed (measured M.Measure) (meant M.Measure.row crossing) i (segment i 1 (front M.Measure.row base lines.old times.old))) (behind M.Measure.row base count lines.old times.old)) lines.new times.new result }
 {
-    let Some(tag) = pass(lines[i].tag, crossing.begins, crossing.sets, crossing.ends) else {
+    let Some(tag) = crossing.pass(lines[i].tag) else {
         return Some(count);
     };
     let time = times[i].sum(crossing.row).unwrap();
@@ -54,9 +51,7 @@ fn cross_line<M: Measure>(
         tag,
         back_arc: crossing.arc,
         back_line: i as u16,
-        fore_arc: 1024,
-        fore_line: 4096,
-        required: false,
+        ..Line::BLANK
     };
     enter_behind(lines, times, base, count, line, time)
 }
@@ -73,12 +68,9 @@ pub(crate) fn cross<M: Measure>(
 ) -> Option<usize>
     requires first_le_last { first ≤ last }
     requires last_le_base { last ≤ base }
-    requires base_bound { base ≤ 4096 }
-    requires count_in_bounds { base + count ≤ length lines.old }
-    requires times_len { length times.old ≡ length lines.old }
-    requires near { Near M.width 256000000 (front M.Measure.row base lines.old times.old) }
+    requires entering { Entering M.Measure base count lines.old times.old }
     requires bounded { Bounded M.width 1000000 (M.Measure.row crossing.row) }
-    ensures { Filled M.Measure.row base lines.old times.old (entered (measured M.width M.not_later) (crossed (measured M.width M.not_later) (meant M.Measure.row crossing) first (segment first (last - first) (front M.Measure.row base lines.old times.old))) (behind M.Measure.row base count lines.old times.old)) lines.new times.new result }
+    ensures { Filled M.Measure.row base lines.old times.old (entered (measured M.Measure) (crossed (measured M.Measure) (meant M.Measure.row crossing) first (segment first (last - first) (front M.Measure.row base lines.old times.old))) (behind M.Measure.row base count lines.old times.old)) lines.new times.new result }
 {
     for i in first..last {
         count = cross_line(crossing, i, lines, times, base, count)?;

@@ -13,15 +13,12 @@ pub(crate) struct Crossing<M> {
     pub row: M,
 }
 
-// The tag that an arrival has after an arc in `sets`, between nodes where the sets `begins` begin and `ends` end; nothing
-// where it is dropped.
-pub(crate) fn pass(tag: u16, begins: u16, sets: u16, ends: u16) -> Option<u16>
-    ensures { result ≡ passed_tag tag begins sets ends }
-{
-    let passed = (tag | begins) & sets;
-    if passed & ends == 0 {
-        Some(passed)
-    } else {
-        None
+impl<M> Crossing<M> {
+    // The tag that an arrival has after the arc; nothing where a set ends that it is in.
+    pub(crate) fn pass(&self, tag: u16) -> Option<u16>
+        ensures { result ≡ passed_tag tag self.now.begins self.now.sets self.now.ends }
+    {
+        let passed = (tag | self.begins) & self.sets;
+        (passed & self.ends == 0).then_some(passed)
     }
 }

@@ -4,20 +4,18 @@
 mod arrive;
 mod ask;
 mod backward;
+mod block;
 mod bring;
 mod cross;
 mod crossing;
 mod enter;
 mod entries;
-mod lines;
 mod masks;
 mod prepare;
-mod read;
 mod refusals;
 mod require;
 mod rows;
 mod slack;
-mod tables;
 mod timer;
 mod told;
 

@@ -1,51 +1,39 @@
-// The sets that begin and end at each node.
-ghost use Rattle.std.specs.Prelude.{◌≡◌, length};
-ghost use Rattle.graph.specs.declared.parts.ArcEnd.TheVariants.{Tail, Head};
+// The sets of the arcs at each node.
+ghost use Rattle.std.specs.Prelude.{◌≡◌, ℕ, ◌<◌, slice_index};
 ghost use Rattle.graph.specs.Block.{block_of};
-ghost use Rattle.timing.specs.Masks.{Gathered, with_sets};
-ghost use Rattle.timing.specs.Bringing.{Masked};
+ghost use Rattle.timing.specs.Masks.{Gathered, with_sets, sets_without};
 
-use graph::{LiveArc, TimingGraph};
+use graph::{ArcEnd, LiveArc, TimingGraph};
 
-// Adds the sets of an arc, if there is one, to those that leave and enter its nodes.
-fn add_sets(arc: Option<LiveArc>, outs: &mut [u16], ins: &mut [u16])
-    requires outs { length outs.old ≡ 256 }
-    requires ins { length ins.old ≡ 256 }
-    ensures outs { outs.new ≡ with_sets Tail arc outs.old }
-    ensures ins { ins.new ≡ with_sets Head arc ins.old }
+// Adds the sets of an arc, if there is one, to those of the node at its end.
+fn add_sets(end: ArcEnd, arc: Option<LiveArc>, masks: &mut [u16; 256])
+    ensures { masks.new ≡ with_sets end arc masks.old }
 {
     let Some(arc) = arc else {
         return;
     };
-    outs[arc.from as usize] |= arc.sets;
-    ins[arc.to as usize] |= arc.sets;
+    masks[arc.node_at(end) as usize] |= arc.sets;
 }
 
-// The sets of the arcs that leave each node, and of those that enter it.
-fn gather(graph: &TimingGraph, outs: &mut [u16], ins: &mut [u16])
-    requires outs { length outs.old ≡ 256 }
-    requires ins { length ins.old ≡ 256 }
-    ensures leaving { Gathered Tail (block_of graph.now).arcs outs.new }
-    ensures entering { Gathered Head (block_of graph.now).arcs ins.new }
+// The sets of the arcs that have each node at that end.
+pub(crate) fn sets_at(end: ArcEnd, graph: &TimingGraph) -> [u16; 256]
+    ensures { Gathered end (block_of graph.now).arcs result }
 {
-    outs.fill(0);
-    ins.fill(0);
+    let mut masks = [0; 256];
     for number in 0..graph.taken() {
-        add_sets(graph.arc(number), outs, ins);
+        add_sets(end, graph.arc(number), &mut masks);
     }
+    masks
 }
 
-// A set begins where an arc of it leaves and none enters, and ends where one enters and none leaves.
-pub(crate) fn node_masks(graph: &TimingGraph, begins: &mut [u16], ends: &mut [u16])
-    requires begins { length begins.old ≡ 256 }
-    requires ends { length ends.old ≡ 256 }
-    ensures { Masked (block_of graph.now).arcs begins.new ends.new }
+// The sets of each node that are not among its others: a set begins where an arc of it leaves and none enters, and ends
+// where one enters and none leaves.
+pub(crate) fn apart_from(masks: &[u16; 256], others: &[u16; 256]) -> [u16; 256]
+    ensures { (v : ℕ) → v < 256 → slice_index result v ≡ sets_without (slice_index others.now v) (slice_index masks.now v) }
 {
-    gather(graph, begins, ends);
-    for v in 0..256 {
-        let outs = begins[v];
-        let ins = ends[v];
-        begins[v] = outs & !ins;
-        ends[v] = ins & !outs;
+    let mut left = [0; 256];
+    for (v, sets) in masks.iter().enumerate() {
+        left[v] = *sets & !others[v];
     }
+    left
 }

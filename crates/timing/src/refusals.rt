@@ -4,6 +4,7 @@ ghost use Rattle.timing.specs.Refusals.{refused_time};
 ghost use Rattle.timing.specs.declared.refusals.TimeRefusal.TheVariants.{SourceFault};
 
 use delay::Fault;
+use std::fmt;
 
 #[derive(Clone, Copy, PartialEq, Eq, Debug)]
 pub enum TimeRefusal {
@@ -35,5 +36,20 @@ impl From<Fault> for TimeRefusal {
 
     fn from(fault: Fault) -> TimeRefusal {
         TimeRefusal::SourceFault(fault)
+    }
+}
+
+impl fmt::Display for TimeRefusal {
+    fn fmt<W: fmt::Write>(&self, f: &mut fmt::Formatter<W>) -> fmt::Result {
+        let number = self.number();
+        write!(f, "number {number}: ")?;
+        match *self {
+            TimeRefusal::WrongLength => write!(f, "a table has the wrong length"),
+            TimeRefusal::SourceFault(fault) => write!(f, "{fault}"),
+            TimeRefusal::OutOfRange(arc) => {
+                write!(f, "the delay and trim of arc {arc} are out of range")
+            }
+            TimeRefusal::TooFewLines => write!(f, "the tables have too few lines"),
+        }
     }
 }

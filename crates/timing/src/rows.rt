@@ -16,8 +16,5 @@ pub(crate) fn time_row<M: Measure>(ticks: Option<i32>) -> Option<M>
     requires { (t : ℤ) → ticks ≡ Some t → is_ticks t ≡ true }
     ensures { on_some M.Measure.row result ≡ on_some M.row_of_time ticks }
 {
-    match ticks {
-        Some(t) => M::time(t),
-        None => None,
-    }
+    M::time(ticks?)
 }

@@ -1,8 +1,8 @@
 // The slack of a node: the least of its lines.
 ghost use Rattle.std.specs.Prelude.{◌≡◌, ◌-◌, ◌<◌, ◌≤◌, length};
 ghost use Rattle.paths.specs.Sheets.{first_least};
-ghost use Rattle.paths.specs.Rows.{rows as measured};
 ghost use Rattle.graph.specs.Sorting.{segment};
+ghost use Rattle.timing.specs.Measured.{measured};
 ghost use Rattle.timing.specs.Requiring.{told, as_list, AsksWithin};
 ghost use Rattle.timing.specs.Slacks.{timeds, slacks_of, TimesWithin};
 
@@ -11,47 +11,46 @@ use crate::told::Told;
 use measure::Measure;
 use sheet::Line;
 
-// The slack of line i, if it has a required time.
-fn line_slack<M: Measure>(lines: &[Line], times: &[M], required: &[M], i: usize) -> Option<Told<M>>
-    requires i_in_bounds { i < length lines.now }
-    requires lines_len_bound { length lines.now ≤ 4096 }
-    requires times_len { length times.now ≡ length lines.now }
-    requires required_len { length required.now ≡ length lines.now }
-    requires asks_within { AsksWithin M.width M.Measure.row lines.now required.now }
-    requires times_within { TimesWithin M.width M.Measure.row times.now }
-    ensures { as_list (told M.Measure.row result) ≡ slacks_of (measured M.width M.not_later) i (segment i 1 (timeds M.Measure.row lines.now times.now required.now)) }
-{
-    if !lines[i].required {
-        return None;
-    }
-    let slack = required[i].sum(times[i].opposite()).unwrap();
-    Some(Told {
-        row: slack,
-        arc: 1024,
-        line: i as u16,
-    })
+// Lines with their arrivals and their required times.
+#[derive(Drop)]
+pub(crate) struct TimedLines<'a, M: Measure> {
+    pub lines: &'a [Line],
+    pub times: &'a [M],
+    pub required: &'a [M],
+    ghost few: { length lines.now ≤ 4096 },
+    ghost all_arrive: { length times.now ≡ length lines.now },
+    ghost all_asked: { length required.now ≡ length lines.now },
+    ghost asks_within: { AsksWithin M.width M.Measure.row lines.now required.now },
+    ghost times_within: { TimesWithin M.width M.Measure.row times.now },
 }
 
-// The least slack of the lines from `first` up to `last`, of equals the lowest line.
-pub(crate) fn least_slack<M: Measure>(
-    lines: &[Line],
-    times: &[M],
-    required: &[M],
-    first: usize,
-    last: usize,
-) -> Option<Told<M>>
-    requires first_le_last { first ≤ last }
-    requires last_in_bounds { last ≤ length lines.now }
-    requires lines_len_bound { length lines.now ≤ 4096 }
-    requires times_len { length times.now ≡ length lines.now }
-    requires required_len { length required.now ≡ length lines.now }
-    requires asks_within { AsksWithin M.width M.Measure.row lines.now required.now }
-    requires times_within { TimesWithin M.width M.Measure.row times.now }
-    ensures { told M.Measure.row result ≡ first_least (measured M.width M.not_later) (slacks_of (measured M.width M.not_later) first (segment first (last - first) (timeds M.Measure.row lines.now times.now required.now))) }
-{
-    let mut least = None;
-    for i in first..last {
-        least = earlier(least, line_slack(lines, times, required, i));
+impl<M: Measure> TimedLines<'_, M> {
+    // The slack of line i, if it has a required time.
+    fn line_slack(&self, i: usize) -> Option<Told<M>>
+        requires { i < length self.now.lines.now }
+        ensures { as_list (told M.Measure.row result) ≡ slacks_of (measured M.Measure) i (segment i 1 (timeds M.Measure.row self.now.lines.now self.now.times.now self.now.required.now)) }
+    {
+        if !self.lines[i].required {
+            return None;
+        }
+        let row = self.required[i].sum(self.times[i].opposite()).unwrap();
+        Some(Told {
+            row,
+            arc: 1024,
+            line: i as u16,
+        })
     }
-    least
+
+    // The least slack of the lines from `first` up to `last`, of equals the lowest line.
+    pub(crate) fn least_slack(&self, first: usize, last: usize) -> Option<Told<M>>
+        requires first_le_last { first ≤ last }
+        requires last_in_bounds { last ≤ length self.now.lines.now }
+        ensures { told M.Measure.row result ≡ first_least (measured M.Measure) (slacks_of (measured M.Measure) first (segment first (last - first) (timeds M.Measure.row self.now.lines.now self.now.times.now self.now.required.now))) }
+    {
+        let mut least = None;
+        for i in first..last {
+            least = earlier(least, self.line_slack(i));
+        }
+        least
+    }
 }

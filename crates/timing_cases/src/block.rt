@@ -22,17 +22,10 @@ pub fn selectors() -> TimingGraph {
     graph
 }
 
-pub fn marked(ticks: i32) -> AnnotatedRow {
-    AnnotatedRow {
-        marked: true,
-        ticks,
-    }
-}
-
 pub fn delays(heap: Global) -> Result<Vec<AnnotatedRow>, AllocError> {
     let mut rows = Vec::new(heap);
     for ticks in [200, 100, 0, 0, 200, 100, 0, 0] {
-        rows.push(marked(ticks))?;
+        rows.push(AnnotatedRow::new(ticks))?;
     }
     Ok(rows)
 }

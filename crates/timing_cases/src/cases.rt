@@ -1,7 +1,7 @@
 // The cases that are accepted.
 use crate::block::{delays, selectors};
 use crate::show::{show_path, show_time};
-use crate::tables::tables_of;
+use crate::written::written;
 use delay::{AnnotatedRow, Margin, Table};
 use graph::TimingGraph;
 use measure::{Early, Measure, StagedTicks, Ticks};
@@ -16,7 +16,7 @@ fn show<M: Measure>(
     lines: usize,
     nodes: &[i32],
 ) -> io::Result<()> {
-    let mut tables = tables_of::<M>(rt.alloc(), lines, 256)?;
+    let mut tables = written::<M>(rt.alloc(), lines, 256)?;
     show_time(rt, name, graph, &mut Table { rows }, &mut tables)?;
     for node in nodes {
         show_path(rt, &tables, *node, 5)?;
@@ -74,7 +74,7 @@ pub fn measured(rt: &HostRuntime) -> io::Result<()> {
     show::<Early<Ticks>>(rt, "set 0, early", &graph, rows, 8, &[6, 4])?;
     show::<Early<StagedTicks>>(rt, "set 0, early staged", &graph, rows, 9, &[6])?;
     let graph = selectors();
-    let mut tables = tables_of::<Ticks>(rt.alloc(), 8, 256)?;
+    let mut tables = written::<Ticks>(rt.alloc(), 8, 256)?;
     let mut margin = Margin::new(Table { rows }, 1500);
     show_time(rt, "no sets, margin 1500", &graph, &mut margin, &mut tables)
 }

@@ -5,8 +5,8 @@ mod block;
 mod cases;
 mod refused;
 mod show;
-mod tables;
 mod traced;
+mod written;
 
 use std::io;
 

@@ -1,11 +1,12 @@
 // Timings that are refused.
-use crate::block::{delays, marked, selectors};
+use crate::block::{delays, selectors};
 use crate::show::show_time;
-use crate::tables::{Tables, tables_of};
+use crate::written::written;
 use delay::{AnnotatedRow, Margin, Table};
 use graph::TimingGraph;
 use measure::{StagedTicks, Ticks};
 use std::io;
+use tables::Tables;
 
 fn show(
     rt: &HostRuntime,
@@ -13,7 +14,7 @@ fn show(
     graph: &TimingGraph,
     rows: &[AnnotatedRow],
 ) -> io::Result<()> {
-    let mut tables = tables_of::<StagedTicks>(rt.alloc(), 8, 256)?;
+    let mut tables = written::<StagedTicks>(rt.alloc(), 8, 256)?;
     show_time(rt, name, graph, &mut Table { rows }, &mut tables)
 }
 
@@ -23,7 +24,7 @@ fn show_margin(
     graph: &TimingGraph,
     rows: &[AnnotatedRow],
 ) -> io::Result<()> {
-    let mut tables = tables_of::<Ticks>(rt.alloc(), 8, 256)?;
+    let mut tables = written::<Ticks>(rt.alloc(), 8, 256)?;
     let mut margin = Margin::new(Table { rows }, 1500);
     show_time(rt, name, graph, &mut margin, &mut tables)
 }
@@ -35,11 +36,11 @@ pub fn by_source(rt: &HostRuntime) -> io::Result<()> {
     let _ = graph.add_arc(5, 6);
     show(rt, "no row for arc 8", &graph, rows.as_slice())?;
     if let Some(row) = rows.get_mut(4) {
-        *row = marked(700_000);
+        *row = AnnotatedRow::new(700_000);
     }
     show_margin(rt, "arc 4 under a margin", &graph, rows.as_slice())?;
     if let Some(row) = rows.get_mut(3) {
-        *row = marked(1_000_001);
+        *row = AnnotatedRow::new(1_000_001);
     }
     show(rt, "the row of arc 3 out of range", &graph, rows.as_slice())?;
     show_margin(rt, "the same under a margin", &graph, rows.as_slice())?;
@@ -63,17 +64,17 @@ fn show_lengths(
 // Number 14, which comes before 12.
 pub fn by_length(rt: &HostRuntime) -> io::Result<()> {
     let heap = rt.alloc();
-    let mut tables = tables_of::<Ticks>(heap, 4097, 256)?;
+    let mut tables = written::<Ticks>(heap, 4097, 256)?;
     show_lengths(rt, "4097 lines", &[], &mut tables)?;
-    let mut tables = tables_of::<Ticks>(heap, 8, 255)?;
+    let mut tables = written::<Ticks>(heap, 8, 255)?;
     show_lengths(rt, "255 nodes", &[], &mut tables)?;
-    let mut tables = tables_of::<Ticks>(heap, 8, 256)?;
+    let mut tables = written::<Ticks>(heap, 8, 256)?;
     let _ = tables.arrivals.pop();
     show_lengths(rt, "an arrival too few", &[], &mut tables)?;
-    let mut tables = tables_of::<Ticks>(heap, 8, 256)?;
+    let mut tables = written::<Ticks>(heap, 8, 256)?;
     let _ = tables.required.pop();
     show_lengths(rt, "a required time too few", &[], &mut tables)?;
-    let mut tables = tables_of::<Ticks>(heap, 8, 256)?;
+    let mut tables = written::<Ticks>(heap, 8, 256)?;
     let _ = tables.slacks.pop();
     show_lengths(rt, "a slack too few", &[], &mut tables)
 }

@@ -1,16 +1,17 @@
 // Traces that are refused.
 use crate::block::{delays, selectors};
-use crate::show::{show_path, time_by};
-use crate::tables::{Tables, tables_of};
+use crate::show::show_path;
+use crate::written::written;
 use delay::Table;
 use measure::Ticks;
 use std::io;
+use tables::Tables;
 
 fn timed(rt: &HostRuntime) -> io::Result<Tables<Ticks>> {
     let rows = delays(rt.alloc())?;
-    let mut tables = tables_of::<Ticks>(rt.alloc(), 10, 256)?;
+    let mut tables = written::<Ticks>(rt.alloc(), 10, 256)?;
     let rows = rows.as_slice();
-    let _ = time_by(&selectors(), &mut Table { rows }, &mut tables);
+    let _ = tables.time(&selectors(), &mut Table { rows });
     Ok(tables)
 }
 

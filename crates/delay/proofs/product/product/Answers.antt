@@ -1,10 +1,7 @@
 use Rattle.std.proofs.Common.{arith, rules}
 use Rattle.std.proofs.lemmas.Int.{ints}
-use Rattle.delay.proofs.Products.{product_within, product_fits, product_is}
+use Rattle.delay.proofs.Products.{product_within, product_is}
 use Rattle.delay.proofs.product.product.Goals as goal
-
-pub overflow_mul-result : goal.overflow_mul-result
-overflow_mul-result c = product_fits c.args.a c.args.b _ _ (search rules) (search rules) c.from.ensures c.from-2.ensures
 
 pub returns : goal.returns
 returns c =

@@ -8,8 +8,8 @@ loop-slot-init c = refl
 
 pub loop-slot-preserved : goal.loop-slot-preserved
 loop-slot-preserved c =
-    slots_more (cleared c.args.set) c.args.arcs.now c.loop-slot.arcs c.loop-slot.slot-index c.emptied.result
+    slots_more (cleared c.args.set.number) c.args.arcs.now c.loop-slot.arcs c.loop-slot.slot-index c.emptied.result
     (omega arith) (omega arith) c.loop-slot.invariant c.emptied.ensures
 
 pub returns : goal.returns
-returns c = slots_all (cleared c.args.set) c.args.arcs.now c.loop-slot.arcs c.loop-slot.slot-index (omega arith) c.loop-slot.invariant
+returns c = slots_all (cleared c.args.set.number) c.args.arcs.now c.loop-slot.arcs c.loop-slot.slot-index (omega arith) c.loop-slot.invariant

@@ -1,26 +1,22 @@
-use Rattle.std.proofs.Common.{◌≡◌, ◌-◌, ◌<◌, true, map, length, take, drop}
+use Rattle.std.proofs.Common.{◌≡◌, ◌≤◌, true, map, length, take, drop}
 use Rattle.graph.specs.Block.{block_of}
 use Rattle.graph.specs.Trials.{put_back}
-use Rattle.ledger.specs.Ledger.{closed}
 use Rattle.ledger.proofs.Running.{under}
-use Rattle.paths.specs.Rows.{rows as measured}
-use Rattle.sheet.specs.Tables.{tables_of}
+use Rattle.sheet.specs.Lent.{tables_in, SameLoans}
 use Rattle.history.specs.Answers.{answer_of}
-use Rattle.history.specs.Steps.{Runs, nested}
+use Rattle.history.specs.Steps.{terms_of, at_rest, Runs, nested}
 use Rattle.history.proofs.running.under_trial.Given as goal
 
-abbrev pub invariant-loop-reply : goal.invariant-loop-reply
-invariant-loop-reply g l =
+abbrev pub invariant-loop-i : goal.invariant-loop-i
+invariant-loop-i g l =
+    let m = g.M.Measure in
     (length l.replies ≡ length l.steps)
-    × (0 < l.i)
-    × (l.i < length l.steps)
+    × (1 ≤ l.i)
     × (nested (drop l.i l.steps) true ≡ true)
     × (g.S.Source.means l.source ≡ g.S.Source.means l.initial.source)
     × (g.S.Source.depth l.source ≡ g.S.Source.depth l.initial.source)
-    × Runs (record { rows = measured g.M.Measure.width g.M.Measure.not_later; row_of_time = g.M.Measure.row_of_time; row_of_arc = g.M.Measure.row_of_arc; means = g.S.Source.means l.initial.source })
-    (record { ledger = closed (put_back (block_of l.trial.graph.now) l.trial.arc l.trial.earlier l.trial.refusal); tables = tables_of g.M.Measure.row l.initial.lines l.initial.arrivals l.initial.required l.initial.nodes l.initial.slacks; list = l.initial.list })
+    × SameLoans l.initial.tables l.tables
+    × Runs (terms_of m (g.S.Source.means l.initial.source))
+    (at_rest (put_back (block_of l.trial.graph.now) l.trial.arc l.trial.earlier l.trial.refusal) (tables_in m.row l.initial.tables) l.initial.list)
     (take l.i l.steps) (map answer_of (take l.i l.replies))
-    (record { ledger = under (block_of l.trial.graph.now) l.trial.arc l.trial.earlier l.trial.refusal; tables = tables_of g.M.Measure.row l.lines l.arrivals l.required l.nodes l.slacks; list = l.list })
-
-abbrev pub decreases-loop-reply : goal.decreases-loop-reply
-decreases-loop-reply g l = length l.steps - l.i
+    (record { ledger = under (block_of l.trial.graph.now) l.trial.arc l.trial.earlier l.trial.refusal; tables = tables_in m.row l.tables; list = l.list })

@@ -1,18 +1,7 @@
-use Rattle.std.proofs.Common.{ℕ, ◌+◌, Err, sym, ap, ◌∙◌, subst}
-use Rattle.std.proofs.lemmas.Result.{err_from_is_err_and}
-use Rattle.reader.specs.Format.{scan}
+use Rattle.std.proofs.Common.{ℕ, ◌+◌, subst}
 use Rattle.reader.specs.Loading.{Answers, loaded, replay, reached}
 use Rattle.reader.specs.Reading.{left}
-use Rattle.reader.proofs.Loads as loads
 use Rattle.reader.proofs.loading.run.Goals as goal
-
-pub returns-in_err-reader : goal.returns-in_err-reader
-returns-in_err-reader g c =
-    let p = err_from_is_err_and c.from_residual.result c.from_residual.ensures.1 in
-    let step = g.S.Sink.step in
-    let file = scan c.args.kind c.args.bytes.now in
-    let over = c.in_err-reader.ensures in
-    loads.answered _ _ c.in_err-reader.field-0.0 _ _ (loads.replay_refused step file _ _ _ over) (p.1 ∙ ap (λ e. Err e) p.2) (sym (loads.reached_none step file _ _ over))
 
 pub returns : goal.returns
 returns g c =

@@ -1,49 +1,43 @@
-use Rattle.std.proofs.Common.{◌≡◌, ◌+◌, ◌-◌, ◌<◌, map, get_or, sym, ap, ◌∙◌, subst, arith}
-use Rattle.measure.specs.Rows.{zeros, on_some}
-use Rattle.graph.specs.Block.{block_of}
-use Rattle.paths.specs.Rows.{rows as measured}
+use Rattle.std.proofs.Common.{◌≡◌, ◌+◌, ◌-◌, ◌<◌, get_or, sym, ap, ◌∙◌, subst, arith}
+use Rattle.measure.specs.Rows.{on_some}
 use Rattle.paths.specs.Sheets.{ended}
-use Rattle.timing.specs.WithRows.{block_with}
+use Rattle.timing.specs.Measured.{measured}
+use Rattle.timing.specs.TimedBlock.{rows_of}
 use Rattle.timing.specs.RequiredFrom.{RequiredFrom}
 use Rattle.timing.proofs.Falling.{required_none, required_all}
 use Rattle.timing.proofs.backward.require_all.Goals as goal
 
 pub loop-node-init : goal.loop-node-init
-loop-node-init g c =
-    let m = g.M.Measure in
-    let b = block_with (zeros m.width) (map m.row_of_arc c.args.tables.now.ticks) m.row_of_time (block_of c.args.graph.now) in
-    required_none m.row (measured m.width m.not_later) b 256 c.args.lines.now c.args.times.now c.args.required.now c.args.firsts.now c.requires.even c.requires.arrived
+loop-node-init g c = required_none g.M.Measure g.met.M.Measure.laws c.args.block.now c.args.lines.now c.args.required.now c.args.firsts.now c.requires.even c.requires.firsts c.requires.arrived
 
 pub time_row-requires : goal.time_row-requires
-time_row-requires g c t e = c.args.graph.now.ended (c.loop-node.node - 1) t (sym c.end.ensures ∙ e)
+time_row-requires g c t e = c.args.block.now.graph.now.ended c.loop-node.node t (sym c.end.ensures ∙ e)
 
 pub require_node-requires : goal.require_node-requires
 require_node-requires g c =
-    let m = g.M.Measure in
-    let b = block_with (zeros m.width) (map m.row_of_arc c.args.tables.now.ticks) m.row_of_time (block_of c.args.graph.now) in
     let l = c.loop-node in
-    let v = l.node - 1 in
-    let below : v < 256 = omega (arith, l.auto.node, c.loop-node-test.true) in
-    let z : l.node ≡ v + 1 = omega (arith, c.loop-node-test.true) in
+    let below : l.node < 256 = omega arith in
     record {
       node = below;
-      end = c.ask_end-end.ensures ∙ ap ended (c.time_row.ensures ∙ ap (on_some m.row_of_time) c.end.ensures);
-      numbers = c.arcs_at.ensures ∙ c.requires.indexed v below;
-      masked = c.requires.masked;
-      ticked = c.requires.ticked;
-      sound = c.requires.sound;
-      sized = c.requires.firsts;
-      firsts = c.requires.arrived.firsts_are;
+      end = c.ask_end-end.ensures ∙ ap ended (c.time_row.ensures ∙ ap (on_some g.M.Measure.row_of_time) c.end.ensures);
+      numbers = c.arcs_at-numbers.ensures ∙ c.by-tails.ensures.lists l.node below;
+      firsts = c.requires.firsts;
       lines = omega (arith, l.auto.lines, c.requires.lines);
       even = omega (arith, l.auto.lines, l.auto.required, c.requires.even);
-      after = subst (λ u. RequiredFrom m.row (measured m.width m.not_later) b 256 (get_or c.args.firsts.now u 0) l.lines l.required) z l.invariant;
+      after = l.invariant;
     }
 
-pub returns : goal.returns
-returns g c =
+pub loop-node-preserved : goal.loop-node-preserved
+loop-node-preserved g c =
     let m = g.M.Measure in
-    let b = block_with (zeros m.width) (map m.row_of_arc c.args.tables.now.ticks) m.row_of_time (block_of c.args.graph.now) in
-    let l = c.loop-node in
-    let z : l.node ≡ 0 = omega (arith, c.loop-node-test.false) in
-    let done = required_all m.row (measured m.width m.not_later) b 256 (get_or c.args.firsts.now l.node 0) l.lines l.required (ap (λ u. get_or c.args.firsts.now u 0) z ∙ c.requires.arrived.firsts_are 0 (omega arith)) l.invariant in
+    let v = c.loop-node.node in
+    let z : v ≡ v - 1 + 1 = omega arith in
+    subst (λ u. RequiredFrom m.row (measured m) (rows_of m c.args.block.now) 256 (get_or c.args.firsts.now u 0) c.require_node.new.lines c.require_node.new.required) z c.require_node.ensures
+
+pub returns-2 : goal.returns-2
+returns-2 g c =
+    let v = c.loop-node.node in
+    let z : v ≡ 0 = omega arith in
+    let done = required_all g.M.Measure g.met.M.Measure.laws c.args.block.now (get_or c.args.firsts.now v 0) c.require_node.new.lines c.require_node.new.required
+    (ap (λ u. get_or c.args.firsts.now u 0) z ∙ c.requires.firsts 0 (omega arith)) c.require_node.ensures in
     record { lines = done.0; required = done.1 }

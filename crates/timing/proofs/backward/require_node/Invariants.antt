@@ -1,13 +1,10 @@
-use Rattle.std.proofs.Common.{◌≤◌, map, get_or}
-use Rattle.measure.specs.Rows.{zeros}
-use Rattle.graph.specs.Block.{block_of}
-use Rattle.paths.specs.Rows.{rows as measured}
-use Rattle.timing.specs.WithRows.{block_with}
+use Rattle.std.proofs.Common.{◌≤◌, length, get_or}
+use Rattle.timing.specs.Measured.{measured}
+use Rattle.timing.specs.TimedBlock.{rows_of}
 use Rattle.timing.specs.RequiredFrom.{RequiredFrom}
 use Rattle.timing.proofs.backward.require_node.Given as goal
 
 abbrev pub invariant-loop-i : goal.invariant-loop-i
 invariant-loop-i g l =
     let m = g.M.Measure in
-    let b = block_with (zeros m.width) (map m.row_of_arc l.tables.ticks) m.row_of_time (block_of l.graph) in
-    (get_or l.firsts l.node 0 ≤ l.i) × RequiredFrom m.row (measured m.width m.not_later) b 256 l.i l.lines l.required
+    record { within : get_or l.firsts l.node 0 ≤ l.i; fit : l.i ≤ length l.lines; required : RequiredFrom m.row (measured m) (rows_of m l.block) 256 l.i l.lines l.required }

@@ -1,4 +1,3 @@
-use Rattle.std.proofs.Common.{refl}
 use Rattle.delay.proofs.Memos.{new_keepable, new_means}
 use Rattle.delay.proofs.memo.Memo.new.Goals as goal
 
@@ -7,5 +6,5 @@ invariant_of-result g c = record {
   ok = new_keepable _ c.empty_places.ensures;
 }
 
-pub returns : goal.returns
-returns g c = record { source = refl; kept = c.empty_places.ensures; means = new_means _ c.empty_places.ensures _ }
+pub returns-clause-means : goal.returns-clause-means
+returns-clause-means g c = new_means _ c.empty_places.ensures _

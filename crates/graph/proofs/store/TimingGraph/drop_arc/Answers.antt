@@ -1,30 +1,21 @@
-use Rattle.std.proofs.Common.{◌≡◌, ◌<◌, true, sym, refl, ap, w32}
-use Rattle.std.proofs.lemmas.Int.{to_z-of_z}
-use Rattle.graph.specs.Order.{Precedes}
-use Rattle.graph.specs.Ranges.{is_ticks}
-use Rattle.graph.specs.Slots.{slot_arc}
-use Rattle.graph.proofs.Slots.{put_slot, none_some}
-use Rattle.graph.proofs.Accepted.{gone}
+use Rattle.std.proofs.Common.{sym, refl, ap, ◌∙◌, subst}
+use Rattle.graph.specs.Block.{Kept, block_of}
+use Rattle.graph.specs.Ranges.{is_arc}
+use Rattle.graph.proofs.Accepted.{read, found, gone}
+use Rattle.graph.proofs.Keeping.{kept_drop}
+use Rattle.graph.proofs.Replayed.{kept_of}
 use Rattle.graph.proofs.store.TimingGraph.drop_arc.Goals as goal
 
 pub invariant_of-self : goal.invariant_of-self
 invariant_of-self c =
     let g = c.args.self.now in
-    let numbers = put_slot slot_arc g.arcs _ _ (λ k _. k < g.taken) g.numbered (λ e h. absurd (none_some e h)) in
-    let rises = put_slot slot_arc g.arcs _ _ (λ _ e. Precedes e.from e.to) g.rising (λ e h. absurd (none_some e h)) in
-    let nodes = put_slot slot_arc g.arcs _ _ (λ _ e. e.to < 256) g.noded (λ e h. absurd (none_some e h)) in
-    let trims = put_slot slot_arc g.arcs _ _ (λ _ e. is_ticks e.trim ≡ true) g.trimmed (λ e h. absurd (none_some e h)) in
-    record {
-      room = g.room;
-      numbered = numbers;
-      rising = rises;
-      noded = nodes;
-      trimmed = trims;
-      started = g.started;
-      ended = g.ended;
-    }
+    let live = found _ _ _ (sym c.ok_or.ensures.value ∙ c.in_ok-live.was) ∙ c.arc.ensures in
+    let e = gone g.taken g.arcs _ _ c.args.arc c.in_ok-number.number c.in_ok-live.live _ (read is_arc _ _ c.ranges.arc c.in_ok-number.ensures) live c.if-live-ne0.false refl in
+    let k = subst Kept (sym (ap (λ w. w.after) e)) (kept_drop (block_of g) c.args.arc (kept_of g)) in
+    record { room = k.room; numbered = k.numbers; rising = k.rising; noded = k.nodes; trimmed = k.trims; started = k.starts; ended = k.ends }
 
-pub returns : goal.returns
-returns c =
-    let e = gone _ _ _ _ _ _ c.in-Some.live _ (to_z-of_z w32 c.args.arc c.ranges.arc) (sym c.if-not-is_arc.ensures) c.in-Some.ensures c.if-live-ne0.false refl in
-    record { answer = ap (λ w. w.answer) e; after = ap (λ w. w.after) e }
+pub returns-clause-after : goal.returns-clause-after
+returns-clause-after c =
+    let g = c.args.self.now in
+    let live = found _ _ _ (sym c.ok_or.ensures.value ∙ c.in_ok-live.was) ∙ c.arc.ensures in
+    ap (λ w. w.after) (gone g.taken g.arcs _ _ c.args.arc c.in_ok-number.number c.in_ok-live.live _ (read is_arc _ _ c.ranges.arc c.in_ok-number.ensures) live c.if-live-ne0.false refl)

@@ -13,8 +13,8 @@ pub returns-in_err-run : goal.returns-in_err-run
 returns-in_err-run c =
     let b = block_of c.args.self.now in
     let file = λ (k : Kind). scan k c.args.bytes.now in
-    let a = subst (λ k. Answers (loaded line_step (file k) b) (reached line_step (file k).records b) c.run.result (block_of c.run.new.sink.graph)) c.kind_of.ensures
-    (subst (λ x. Answers (loaded line_step (file c.kind_of.result) x) (reached line_step (file c.kind_of.result).records x) c.run.result (block_of c.run.new.sink.graph)) c.on-loading.ensures c.run.ensures) in
+    let a = subst (λ k. Answers (loaded line_step (file k) b) (reached line_step (file k).records b) c.run.result (block_of c.run.new.sink.graph)) c.into.ensures
+    (subst (λ x. Answers (loaded line_step (file c.into.result) x) (reached line_step (file c.into.result).records x) c.run.result (block_of c.run.new.sink.graph)) c.on-loading.ensures c.run.ensures) in
     let p = err_from_is_err_and c.from_residual.result c.from_residual.ensures.1 in
     let refusal : c.from_residual.result ≡ Err c.in_err-run.field-0.0 = p.1 ∙ ap Err p.2 in
     subst (λ r. Loads b (file (kind_of c.args.file)) (placed r) b) (sym refusal)
@@ -24,6 +24,6 @@ pub returns : goal.returns
 returns c =
     let b = block_of c.args.self.now in
     let file = λ (k : Kind). scan k c.args.bytes.now in
-    let a = subst (λ k. Answers (loaded line_step (file k) b) (reached line_step (file k).records b) c.run.result (block_of c.run.new.sink.graph)) c.kind_of.ensures
-    (subst (λ x. Answers (loaded line_step (file c.kind_of.result) x) (reached line_step (file c.kind_of.result).records x) c.run.result (block_of c.run.new.sink.graph)) c.on-loading.ensures c.run.ensures) in
+    let a = subst (λ k. Answers (loaded line_step (file k) b) (reached line_step (file k).records b) c.run.result (block_of c.run.new.sink.graph)) c.into.ensures
+    (subst (λ x. Answers (loaded line_step (file c.into.result) x) (reached line_step (file c.into.result).records x) c.run.result (block_of c.run.new.sink.graph)) c.on-loading.ensures c.run.ensures) in
     loads_ok b (file (kind_of c.args.file)) _ c.run.result (kept_of c.args.self.now) c.in_ok-run.was _ a

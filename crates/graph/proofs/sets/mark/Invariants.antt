@@ -1,7 +1,0 @@
-use Rattle.std.proofs.Common.{◌≡◌, ◌++◌, map, take, drop}
-use Rattle.graph.specs.Slots.{arcs_of}
-use Rattle.graph.specs.Sweeps.{marked}
-use Rattle.graph.proofs.sets.mark.Given as goal
-
-abbrev pub invariant-loop-slot : goal.invariant-loop-slot
-invariant-loop-slot l = arcs_of l.arcs ≡ map (marked l.set l.ahead l.behind) (take l.slot-index (arcs_of l.initial.arcs)) ++ drop l.slot-index (arcs_of l.initial.arcs)
