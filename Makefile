@@ -1,5 +1,5 @@
-# make demo   prove and build the program, run its demonstrations, and hold the block's to docs/demo-block.txt
-# make test   the whole gate: every proof from nothing, every must-fail edit, every test
+# make demo   prove and build the program, and time its built-in block
+# make test   the whole gate: every proof from nothing, every must-fail edit, every test, the program from outside
 # make bench  the benchmarks, each beside a plain C version in the same run
 
 CC = gcc
@@ -11,9 +11,6 @@ demo:
 	cd crates/ripotyngue && rt run -- demo
 	mkdir -p target/bin
 	cp crates/ripotyngue/out/ripotyngue target/bin/
-	target/bin/ripotyngue demo-block > target/demo-block.txt
-	cat target/demo-block.txt
-	diff docs/demo-block.txt target/demo-block.txt
 
 test:
 	.ci/run

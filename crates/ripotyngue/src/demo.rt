@@ -1,144 +1,142 @@
-// The commands `demo`: built-in files, good ones and damaged ones, through the reader, then measures and sources; and
-// `demo-block`: the timing of a block.
-use crate::check::{judge, status};
-use crate::demo_block::{BlockFiles, show_block};
-use crate::demo_measures::show_measures;
-use crate::demo_sources::show_sources;
+// The command `demo`: the two-selector block, from its files to its slacks and paths.
+use crate::choices::Shown;
+use crate::delays::Delays;
 use crate::failure::Failure;
-use reader::{Kind, LIMIT, count};
+use crate::report::Report;
+use crate::running::run_steps;
+use crate::time::load_step;
+use delay::load_delays;
+use graph::GraphFile;
+use history::{Step, StepReply};
+use ledger::{Act, Reply};
+use measure::{Early, Measure, Ticks};
 use std::io;
-use std::process::ExitCode;
 
 // Two selectors, one behind the other, that always choose the same way.
-const ARCS: &[u8] = b"from,to\n0,1\n0,2\n1,3\n2,3\n3,4\n3,5\n4,6\n5,6\nend,8\n";
+pub const ARCS: &[u8] = b"from,to\n0,1\n0,2\n1,3\n2,3\n3,4\n3,5\n4,6\n5,6\nend,8\n";
 
-const DELAYS: &[u8] = b"ticks,arc\n200,0\n100,1\n0,2\n0,3\n200,4\n100,5\n0,6\n0,7\nend,8\n";
+pub const DELAYS: &[u8] = b"ticks,arc\n200,0\n100,1\n0,2\n0,3\n200,4\n100,5\n0,6\n0,7\nend,8\n";
 
-const BOUNDS: &[u8] = b"node,side,ticks\n0,s,0\n6,e,350\nend,2\n";
+pub const BOUNDS: &[u8] = b"node,side,ticks\n0,s,0\n6,e,350\nend,2\n";
 
-const FALSE_SETS: &[u8] = b"set,from,to\n0,1,4\nend,1\n";
+pub const FALSE_SETS: &[u8] = b"set,from,to\n0,1,4\nend,1\n";
 
-// Bytes that are read as a file of a kind.
-#[derive(Clone, Copy)]
-struct Sample<'a> {
-    name: &'static str,
-    kind: Kind,
-    bytes: &'a [u8],
-}
+// A step and its name.
+type Named<'a> = (&'static str, Step<'a>);
 
-impl<'a> Sample<'a> {
-    fn new(name: &'static str, kind: Kind, bytes: &'a [u8]) -> Sample<'a> {
-        Sample { name, kind, bytes }
-    }
-}
-
-// The files of the block.
-fn block_samples() -> [Sample<'static>; 4] {
-    [
-        Sample::new("arcs.txt", Kind::Arcs, ARCS),
-        Sample::new("delays.txt", Kind::Delays, DELAYS),
-        Sample::new("bounds.txt", Kind::Bounds, BOUNDS),
-        Sample::new("false.txt", Kind::FalseSets, FALSE_SETS),
-    ]
-}
-
-// Says of each what the reader makes of it, and answers how many it took.
-fn judge_all(rt: &HostRuntime, samples: &[Sample<'_>]) -> io::Result<usize> {
-    let mut taken = 0usize;
-    for sample in samples {
-        if judge(rt, sample.name, sample.kind, sample.bytes)? {
-            taken = taken.saturating_add(1);
+fn show_reply(rt: &HostRuntime, step: &str, reply: StepReply) -> io::Result<()> {
+    match reply {
+        StepReply::Act(Reply::FileRefused(refusal)) => println!(rt; "{step}: refused, {refusal}"),
+        StepReply::Act(Reply::Refused(refusal)) => {
+            let number = refusal.number();
+            println!(rt; "{step}: refused, number {number}")
         }
-    }
-    Ok(taken)
-}
-
-fn good_files(rt: &HostRuntime) -> io::Result<bool> {
-    rt.println("Good files:")?;
-    let taken = judge_all(rt, &block_samples())?;
-    let none = judge(rt, "no-sets.txt", Kind::FalseSets, b"set,from,to\nend,0\n")?;
-    Ok(taken == 4 && none)
-}
-
-// How many beginnings of a file, short of its end, are taken.
-fn taken_beginnings(kind: Kind, bytes: &[u8]) -> usize {
-    (0..bytes.len())
-        .filter_map(|end| bytes.get(..end))
-        .filter(|beginning| count(kind, beginning).is_ok())
-        .count()
-}
-
-fn cut_files(rt: &HostRuntime) -> io::Result<bool> {
-    rt.println("The same files, cut short at every byte:")?;
-    let mut well = true;
-    for Sample { name, kind, bytes } in block_samples() {
-        let all = bytes.len();
-        let taken = taken_beginnings(kind, bytes);
-        println!(rt; "{name}: of its {all} beginnings short of its end, {taken} are taken")?;
-        well &= taken == 0;
-    }
-    Ok(well)
-}
-
-// Fills the bytes with junk that is the same in every run, and has no line feed.
-fn scramble(bytes: &mut [u8]) {
-    let mut state = 7u32;
-    for byte in bytes.iter_mut() {
-        state = state.wrapping_mul(1_103_515_245).wrapping_add(12_345);
-        *byte = 32 + ((state >> 16) % 95) as u8;
+        StepReply::Act(_) => println!(rt; "{step}: done"),
+        StepReply::Time(Ok(count)) => println!(rt; "{step}: {count} lines"),
+        _ => println!(rt; "{step}: refused"),
     }
 }
 
-fn damaged_files(rt: &HostRuntime) -> io::Result<bool> {
-    rt.println("Damaged files:")?;
-    let mut junk = [0u8; LIMIT + 1];
-    scramble(&mut junk);
-    let sets = Kind::FalseSets;
-    let taken = judge_all(
-        rt,
-        &[
-            Sample::new("no bytes", sets, b""),
-            Sample::new("cut in a value line", sets, b"set,from,to\n0,1"),
-            Sample::new("cut before the end line", sets, b"set,from,to\n0,1,4\n"),
-            Sample::new("a wrong count", Kind::Arcs, b"from,to\n0,1\nend,2\n"),
-            Sample::new("a name twice", Kind::Arcs, b"from,from\nend,0\n"),
-            Sample::new("a leading zero", Kind::Arcs, b"from,to\n0,1\n0,02\nend,2\n"),
-            Sample::new(
-                "a side that is none",
-                Kind::Bounds,
-                b"node,side,ticks\n0,x,0\nend,1\n",
-            ),
-            Sample::new("bytes after the end", Kind::Delays, b"arc,ticks\nend,0\n\n"),
-            Sample::new("60000 bytes of junk", sets, &junk[..LIMIT]),
-            Sample::new("60001 bytes of junk", sets, &junk),
-        ],
-    )?;
-    Ok(taken == 0)
-}
-
-// It went well where every file was judged as it should be.
-pub fn demo(rt: &HostRuntime) -> Result<ExitCode, Failure> {
-    let good = good_files(rt)?;
-    let cut = cut_files(rt)?;
-    let damaged = damaged_files(rt)?;
-    let well = good && cut && damaged;
-    if well {
-        rt.println("Each good file was taken whole, and each damaged one was refused.")?;
+// Runs the steps, and says what each answered.
+fn run_shown<'a, M: Measure>(
+    rt: &'a HostRuntime,
+    named: &[Named<'_>],
+    delays: &'a Delays,
+) -> Result<Report<'a, M>, Failure> {
+    let steps = named
+        .iter()
+        .map(|(_, step)| *step)
+        .collect::<Vec<_>>(rt.alloc())?;
+    let mut replies = vec![in rt.alloc(); StepReply::Time(Ok(0)); steps.len()]?;
+    let report = run_steps(rt, steps.as_slice(), delays, replies.as_mut_slice())?;
+    for ((name, _), reply) in named.iter().zip(replies.iter()) {
+        show_reply(rt, name, *reply)?;
     }
-    show_measures(rt)?;
-    show_sources(rt)?;
-    Ok(status(well))
+    Ok(report)
 }
 
-// Times the block of the good files.
-pub fn demo_block(rt: &HostRuntime) -> Result<(), Failure> {
-    show_block(
-        rt,
-        BlockFiles {
-            arcs: ARCS,
-            delays: DELAYS,
-            bounds: BOUNDS,
-            false_sets: FALSE_SETS,
-        },
-    )
+fn without_sets(rt: &HostRuntime, delays: &Delays) -> Result<(), Failure> {
+    println!(rt; "Without false sets, by ticks:")?;
+    let steps = [
+        ("load arcs.txt", load_step(GraphFile::Arcs, ARCS)),
+        ("load bounds.txt", load_step(GraphFile::Bounds, BOUNDS)),
+        ("time", Step::Time),
+    ];
+    let report = run_shown::<Ticks>(rt, &steps, delays)?;
+    report.show_slacks()?;
+    report.tell_worst()?;
+    report.show_paths(Shown::Worst)
+}
+
+// With the false set, by any measure.
+fn with_sets<M: Measure>(rt: &HostRuntime, delays: &Delays, node: i32) -> Result<(), Failure> {
+    let steps = [
+        ("load arcs.txt", load_step(GraphFile::Arcs, ARCS)),
+        ("load bounds.txt", load_step(GraphFile::Bounds, BOUNDS)),
+        (
+            "load false.txt",
+            load_step(GraphFile::FalseSets, FALSE_SETS),
+        ),
+        ("time", Step::Time),
+    ];
+    let report = run_shown::<M>(rt, &steps, delays)?;
+    report.show_slacks()?;
+    report.tell_worst()?;
+    report.show_paths(Shown::Worst)?;
+    report.show_paths(Shown::Node(node))
+}
+
+// The slacks under a trial of arc 0, and after it.
+fn with_trial(rt: &HostRuntime, delays: &Delays) -> Result<(), Failure> {
+    let open = Act::Open {
+        arc: 0,
+        ticks: -100,
+    };
+    let steps = [
+        ("load arcs.txt", load_step(GraphFile::Arcs, ARCS)),
+        ("load bounds.txt", load_step(GraphFile::Bounds, BOUNDS)),
+        ("trial", Step::Act(open)),
+        ("time", Step::Time),
+        ("its end", Step::Act(Act::End)),
+        ("time", Step::Time),
+    ];
+    println!(rt; "Without false sets, under a trial of arc 0 with -100 ticks:")?;
+    let report = run_shown::<Ticks>(rt, &steps[..5], delays)?;
+    report.show_slacks()?;
+    println!(rt; "The same, and timed again after the trial's end:")?;
+    let report = run_shown::<Ticks>(rt, &steps, delays)?;
+    report.show_slacks()?;
+    Ok(())
+}
+
+// A false-set file that lost its end line is refused, and the block is timed as if it had not been there.
+fn with_cut_file(rt: &HostRuntime, delays: &Delays) -> Result<(), Failure> {
+    println!(rt; "With a false-set file that was cut before its end line:")?;
+    let cut = b"set,from,to\n0,1,4\n";
+    let steps = [
+        ("load arcs.txt", load_step(GraphFile::Arcs, ARCS)),
+        ("load bounds.txt", load_step(GraphFile::Bounds, BOUNDS)),
+        ("load cut.txt", load_step(GraphFile::FalseSets, cut)),
+        ("time", Step::Time),
+    ];
+    let report = run_shown::<Ticks>(rt, &steps, delays)?;
+    report.tell_worst()?;
+    report.show_paths(Shown::Worst)
+}
+
+pub fn demo(rt: &HostRuntime) -> Result<(), Failure> {
+    println!(rt; "Timing: two selectors, one behind the other, that always choose the same way")?;
+    let mut delays = Delays::none(rt.alloc())?;
+    if let Err(refusal) = load_delays(DELAYS, delays.rows.as_mut_slice()) {
+        let path = String::from_str(rt.alloc(), "delays.txt")?;
+        return Err(Failure::FileRefused { path, refusal });
+    }
+    println!(rt; "load delays.txt: done")?;
+    without_sets(rt, &delays)?;
+    println!(rt; "With the false set from node 1 to node 4, by ticks:")?;
+    with_sets::<Ticks>(rt, &delays, 6)?;
+    with_trial(rt, &delays)?;
+    println!(rt; "With the false set, by early ticks:")?;
+    with_sets::<Early<Ticks>>(rt, &delays, 6)?;
+    with_cut_file(rt, &delays)
 }

@@ -9,9 +9,10 @@ const TEXT: &str = "ripotyngue: timing of a logic block with known false subgrap
   ripotyngue time OPTIONS         time the block of some files: what each file gave, the slack of
                                   each node, the worst node and the path that decides it
   ripotyngue shell                commands from the standard input, one answer to each
-  ripotyngue demo                 read built-in files, good ones and damaged ones, and say what
+  ripotyngue demo                 time a built-in block with and without a false set, under a trial,
+                                  by an early measure, and with a refused file
+  ripotyngue demo-parts           read built-in files, good ones and damaged ones, and say what
                                   came of each; then show measures and delay sources at work
-  ripotyngue demo-block           time a block with and without a false set
   ripotyngue help                 this text
 
 The status is 0 when all went well, and 1 when a file, a timing or a path was refused, a file could

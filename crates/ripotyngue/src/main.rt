@@ -7,8 +7,8 @@ mod choices;
 mod command;
 mod delays;
 mod demo;
-mod demo_block;
 mod demo_measures;
+mod demo_parts;
 mod demo_sources;
 mod failure;
 mod files;
@@ -34,8 +34,8 @@ fn run(rt: &HostRuntime) -> Result<ExitCode, Failure> {
     let command = words.next().ok_or(Failure::NoCommand)?;
     match command.as_str() {
         "check" => return check::check(rt, words),
-        "demo" => return demo::demo(rt),
-        "demo-block" => demo::demo_block(rt)?,
+        "demo" => demo::demo(rt)?,
+        "demo-parts" => return demo_parts::demo_parts(rt),
         "time" => time::time_command(rt, words)?,
         "shell" => shell::shell(rt)?,
         "help" => help::help(rt)?,
