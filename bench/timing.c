@@ -1,12 +1,13 @@
-// Times a block of 256 nodes, 1,024 arcs and 16 false sets, and prints the nanoseconds of the fastest of some timings,
-// how many lines there are, and the sum of the slacks. The block is that of the program bench_timing.
+// Times blocks of 1,024 arcs with false sets, and prints of each the nanoseconds of the fastest of some timings, how many
+// lines there are, how many crossings of an arc by a line of the node that it leaves, and the sum of the slacks. The
+// blocks are those of the program bench_timing.
 #include <stdbool.h>
 #include <stdint.h>
 #include <stdio.h>
 #include <string.h>
 #include <time.h>
 
-enum { NODES = 256, ARCS = 1024, LINES = 4096, LAYER = 16, LIMIT = 1000000, ROUNDS = 2000 };
+enum { NODES = 256, ARCS = 1024, LINES = 4096, LAYER = 16, SELECTORS = 10, BEHIND = 3 * SELECTORS, LIMIT = 1000000 };
 
 typedef struct {
     uint8_t from, to;
@@ -107,12 +108,23 @@ static void index_by(Index *index, const Graph *g, bool head) {
     memcpy(index->ends, starts, sizeof index->ends);
 }
 
+// Where the lines from first up to last, which are sorted by tag, reach the tag.
+static int place(int first, int last, uint16_t tag) {
+    int size = last - first;
+    if (size == 0)
+        return first;
+    while (size > 1) {
+        int half = size / 2;
+        first = lines[first + half].tag < tag ? first + half : first;
+        size -= half;
+    }
+    return first + (lines[first].tag < tag);
+}
+
 // Enters a line among the `count` lines of its node from `base` on, which are sorted by tag; their count then, or -1
 // where there is no room.
 static int enter(int base, int count, Line line, int32_t time) {
-    int p = base, end = base + count;
-    while (p < end && lines[p].tag < line.tag)
-        p++;
+    int end = base + count, p = place(base, end, line.tag);
     if (p < end && lines[p].tag == line.tag) {
         if (time > arrivals[p]) {
             lines[p] = line;
@@ -167,10 +179,8 @@ static void require(const Graph *g, const Index *tails, const Facts *facts, int 
             uint16_t tag = (lines[i].tag | facts->begins[v]) & arc.sets;
             if (tag & facts->ends[arc.to])
                 continue;
-            int j = facts->firsts[arc.to], last = facts->firsts[arc.to + 1];
-            while (j < last && lines[j].tag != tag)
-                j++;
-            if (j == last || !lines[j].required)
+            int last = facts->firsts[arc.to + 1], j = place(facts->firsts[arc.to], last, tag);
+            if (j == last || lines[j].tag != tag || !lines[j].required)
                 continue;
             int32_t time = required[j] - facts->ticks[n];
             if (!asked || time < best) {
@@ -248,7 +258,7 @@ static void add_arc(int from, int to) {
 static void add_pair(int set, int from, int to) {
     bool ahead[NODES] = {false}, behind[NODES] = {false};
     ahead[from] = behind[to] = true;
-    for (int round = 0; round < LAYER; round++)
+    for (int round = 0; round < NODES; round++)
         for (int n = 0; n < graph.taken; n++) {
             LiveArc arc = graph.arcs[n].arc;
             ahead[arc.to] |= ahead[arc.from];
@@ -259,7 +269,8 @@ static void add_pair(int set, int from, int to) {
             graph.arcs[n].arc.sets |= (uint16_t)(1 << set);
 }
 
-static void make_block(void) {
+// 16 layers with 16 nodes each, four arcs from each node to the next layer and 64 that pass a layer, and 16 sets.
+static void make_layers(void) {
     for (int i = 0; i < 960; i++) {
         int v = i / 4, place = i % 4 == 0 ? v % LAYER : roll(LAYER);
         add_arc(v, (v / LAYER + 1) * LAYER + place);
@@ -276,6 +287,32 @@ static void make_block(void) {
         int from = set % 12 * LAYER + roll(LAYER);
         add_pair(set, from, (from / LAYER + 4) * LAYER + roll(LAYER));
     }
+}
+
+static void connect(int from, int to, int arcs) {
+    for (int i = 0; i < arcs; i++)
+        add_arc(from, to);
+}
+
+// Ten selectors in a row. Each has two ways, and on one of them a set begins. All sets end at the first of two nodes
+// behind the last selector. So the node behind k selectors has 2^k tags.
+static void make_selectors(void) {
+    for (int set = 0; set < SELECTORS; set++) {
+        int from = set * 3;
+        connect(from, from + 1, 25);
+        connect(from, from + 2, 25);
+        connect(from + 1, from + 3, 25);
+        connect(from + 2, from + 3, 25);
+    }
+    connect(BEHIND, BEHIND + 1, 12);
+    connect(BEHIND, BEHIND + 2, 12);
+    graph.starts[0] = (TimeSlot){true, 0};
+    graph.ends[BEHIND + 1] = graph.ends[BEHIND + 2] = (TimeSlot){true, 10000};
+    for (int set = 0; set < SELECTORS; set++)
+        add_pair(set, set * 3 + 1, BEHIND + 1);
+}
+
+static void add_delays(void) {
     for (int n = 0; n < ARCS; n++)
         rows[n] = (Row){true, roll(900) + 100};
 }
@@ -286,21 +323,43 @@ static long long now(void) {
     return t.tv_sec * 1000000000LL + t.tv_nsec;
 }
 
-int main(void) {
+// How often a line of these meets an arc that leaves its node.
+static long long crossings(int count) {
+    int fan_outs[NODES] = {0};
+    long long sum = 0;
+    for (int n = 0; n < graph.taken; n++)
+        fan_outs[graph.arcs[n].arc.from]++;
+    for (int i = 0; i < count; i++)
+        sum += fan_outs[lines[i].node];
+    return sum;
+}
+
+// Times the block so often, and prints what it comes to; false where it is refused.
+static bool report(const char *name, int rounds) {
     long long best = -1, sum = 0;
     int count = 0;
-    make_block();
-    for (int i = 0; i < ROUNDS; i++) {
+    for (int i = 0; i < rounds; i++) {
         long long start = now();
         count = time_graph(&graph, rows);
         long long taken = now() - start;
         if (count < 0)
-            return 1;
+            return false;
         if (best < 0 || taken < best)
             best = taken;
     }
     for (int v = 0; v < NODES; v++)
         sum += slacks[v];
-    printf("%lld ns, %d lines, sum of slacks %lld\n", best, count, sum);
-    return 0;
+    printf("%lld ns, %s: %d lines, %lld crossings, sum of slacks %lld\n", best, name, count, crossings(count), sum);
+    return true;
+}
+
+int main(void) {
+    make_layers();
+    add_delays();
+    if (!report("1,024 arcs in layers", 2000))
+        return 1;
+    memset(&graph, 0, sizeof graph);
+    make_selectors();
+    add_delays();
+    return report("1,024 arcs through selectors", 200) ? 0 : 1;
 }

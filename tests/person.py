@@ -371,7 +371,7 @@ class Person:
         if name == "margin":
             self.margin = None if words == ["off"] else in_range(*numbers(words, 1), 0, 65_535)
         elif name == "lines":
-            self.length = in_range(*numbers(words, 1), 0, 2**31 - 1)
+            self.length = in_range(*numbers(words, 1), 0, 2**31 - 2)
             self.blank()
         elif name == "measure" and words in [["ticks"], ["staged"], ["early"], ["early-staged"]]:
             self.measure = Measure(words[0])

@@ -103,7 +103,7 @@ class Script:
             other = ["", "  # a remark", "arc 1", "drop x", "pair 1 2 3 4", "no such", "endtrial", "measure slow", "trace", "margin"]
             self.lines.append(dice.choice(other))
         elif roll < 0.6:
-            lengths = (0, 3, 8, 4096, 4096, 4097, 70000, -1)
+            lengths = (0, 3, 8, 4096, 4096, 4097, 2**31 - 2, 2**31 - 1, 2**40, -1)
             changes = [f"lines {dice.choice(lengths)}", f"margin {dice.choice((0, 999, 1001, 1500, 1999, 2500, 65535, 65536))}"]
             measures = [f"measure {name}" for name in ("ticks", "staged", "early", "early-staged")]
             self.lines.append(dice.choice(changes + measures + ["margin off"]))

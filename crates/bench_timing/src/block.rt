@@ -1,8 +1,13 @@
-// A block of 16 layers with 16 nodes each, 1,024 arcs and 16 false sets.
+// The blocks that are timed, of 1,024 arcs each.
 use delay::AnnotatedRow;
 use graph::TimingGraph;
 
 const LAYER: u16 = 16;
+
+const SELECTORS: u16 = 10;
+
+// The node behind the last selector.
+const BEHIND: u16 = 30;
 
 #[derive(Clone, Copy)]
 pub struct Dice {
@@ -73,10 +78,46 @@ pub fn add_delays(rows: &mut [AnnotatedRow; 1024], dice: &mut Dice) {
     }
 }
 
+// 16 layers with 16 nodes each, and 16 sets.
 pub fn layered(dice: &mut Dice) -> TimingGraph {
     let mut graph = TimingGraph::new();
     add_arcs(&mut graph, dice);
     add_bounds(&mut graph, dice);
     add_sets(&mut graph, dice);
+    graph
+}
+
+// Adds some arcs from one node to another.
+fn connect(graph: &mut TimingGraph, from: u16, to: u16, arcs: u16) {
+    for _ in 0..arcs {
+        let _ = graph.add_arc(i32::from(from), i32::from(to));
+    }
+}
+
+// The two ways through each selector, and the two behind the last.
+fn add_ways(graph: &mut TimingGraph) {
+    for selector in 0..SELECTORS {
+        let from = selector * 3;
+        connect(graph, from, from + 1, 25);
+        connect(graph, from, from + 2, 25);
+        connect(graph, from + 1, from + 3, 25);
+        connect(graph, from + 2, from + 3, 25);
+    }
+    connect(graph, BEHIND, BEHIND + 1, 12);
+    connect(graph, BEHIND, BEHIND + 2, 12);
+}
+
+// Ten selectors in a row. Each has two ways, and on one of them a set begins. All sets end at the first of two nodes
+// behind the last selector. So the node behind k selectors has 2^k tags.
+pub fn selectors() -> TimingGraph {
+    let mut graph = TimingGraph::new();
+    add_ways(&mut graph);
+    let _ = graph.set_start(0, 0);
+    let ends = i32::from(BEHIND) + 1;
+    let _ = graph.set_end(ends, 10_000);
+    let _ = graph.set_end(ends + 1, 10_000);
+    for set in 0..SELECTORS {
+        let _ = graph.pair(i32::from(set), i32::from(set) * 3 + 1, ends);
+    }
     graph
 }

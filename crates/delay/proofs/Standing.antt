@@ -1,5 +1,6 @@
 -- After an accepted file the last line for an arc stands.
 use Rattle.std.proofs.Common.{◌≡◌, ℕ, ◌+◌, ◌<◌, Bool, true, false, cond, eqb, List, [], ◌∷◌, length, get_or, set, ℤ, pos, negsuc, Some, None, Ok, Err, Option, Result, sym, refl, ap, ◌∙◌, subst, inl, inr, arith, length-set, get_or-set_other, get_or-set_same}
+use Rattle.std.specs.Result.{result_and}
 use Rattle.std.proofs.lemmas.Bool.{cases_eq, eqb-true}
 use Rattle.reader.specs.declared.records.Kind.TheVariants.{Delays}
 use Rattle.reader.specs.declared.records.Record.{Record}
@@ -9,7 +10,7 @@ use Rattle.reader.specs.declared.faults.FileFault.TheVariants.{Call}
 use Rattle.reader.specs.Format.{scan}
 use Rattle.reader.specs.Loading.{Leaves, replay, loaded}
 use Rattle.delay.specs.declared.annotated.AnnotatedRow.{AnnotatedRow}
-use Rattle.delay.specs.DelayFiles.{is_delay, annotation, take_line, length_answer, and_then, Loads, Stands, LastLineStands, blank}
+use Rattle.delay.specs.DelayFiles.{is_delay, annotation, take_line, length_answer, Loads, Stands, LastLineStands, blank}
 
 refused : {M E : Type 0} {e : E} {m : M} → Err e ≡ Ok m → ⊥
 refused {e} {m} h = let z : ◌≡◌ {A = ℕ} 0 1 = cc in omega arith
@@ -51,8 +52,8 @@ module _ (bytes : List ℕ) (s t : List AnnotatedRow) (r : Result (Unit {0}) Fil
   abbrev after_lines : Result (List AnnotatedRow) FileRefusal
   after_lines = loaded take_line (scan Delays bytes) s
 
-  pub loads_by : (x : Result (Unit {0}) FileRefusal) → x ≡ length_answer (length s) → Leaves (and_then x after_lines) s r t → Loads bytes s r t
-  loads_by x e p = subst (λ y. Leaves (and_then y after_lines) s r t) e p
+  pub loads_by : (x : Result (Unit {0}) FileRefusal) → x ≡ length_answer (length s) → Leaves (result_and x after_lines) s r t → Loads bytes s r t
+  loads_by x e p = subst (λ y. Leaves (result_and y after_lines) s r t) e p
 
   pub loads_stand : Loads bytes s r t → LastLineStands bytes s r t
   loads_stand p ok k small = at (eqb (length s) 1024) refl p
@@ -61,6 +62,6 @@ module _ (bytes : List ℕ) (s t : List AnnotatedRow) (r : Result (Unit {0}) Fil
       taken long (Ok m) e q = lines_stand_lem k (scan Delays bytes).records (scan Delays bytes).ending 2 s t (omega arith) (e ∙ ap Ok (sym q.1))
       taken long (Err x) e q = absurd (refused (sym q.0 ∙ ok))
 
-      at : (b : Bool) → eqb (length s) 1024 ≡ b → Leaves (and_then {A = Unit {0}} (cond b (Ok tt) (Err (record { fault = Call 14; line = 0 }))) after_lines) s r t → Stands k (scan Delays bytes).records (get_or s k blank) (get_or t k blank)
+      at : (b : Bool) → eqb (length s) 1024 ≡ b → Leaves (result_and {T = Unit {0}} (cond b (Ok tt) (Err (record { fault = Call 14; line = 0 }))) after_lines) s r t → Stands k (scan Delays bytes).records (get_or s k blank) (get_or t k blank)
       at true h q = taken (eqb-true (length s) 1024 h) after_lines refl q
       at false h q = absurd (refused (sym q.0 ∙ ok))

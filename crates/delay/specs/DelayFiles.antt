@@ -1,6 +1,7 @@
 -- What a load of a delay file does to an annotated table.
 use Rattle.std.specs.Prelude.{◌≡◌, ℕ, ◌<◌, Bool, true, false, cond, ◌&&◌, ◌⊎◌, List, ◌∷◌, ◌++◌, length, ℤ, pos, Ok, Err, Result, ◌==◌, int_le, slice_index_or, slice_set, unsigned_abs}
 use Rattle.std.specs.List.{AllByRecursion}
+use Rattle.std.specs.Result.{result_and}
 use Rattle.reader.specs.declared.records.Kind.TheVariants.{Delays}
 use Rattle.reader.specs.declared.records.Record.{Record}
 use Rattle.reader.specs.declared.records.Record.TheVariants.{Arc, Delay, Bound, Pair}
@@ -33,14 +34,9 @@ take_line rows (Pair a b c) = Err 6
 abbrev pub length_answer : ℕ → Result (Unit {0}) FileRefusal
 length_answer rows = cond (rows == 1024) (Ok tt) (Err (record { fault = Call 14; line = 0 }))
 
--- the second answer, unless the first refuses
-abbrev pub and_then : {A B E : Type 0} → Result A E → Result B E → Result B E
-and_then (Ok x) second = second
-and_then (Err e) second = Err e
-
 -- the table s after the file's lines, or the first refusal
 abbrev pub loaded_table : List ℕ → List AnnotatedRow → Result (List AnnotatedRow) FileRefusal
-loaded_table bytes s = and_then (length_answer (length s)) (loaded take_line (scan Delays bytes) s)
+loaded_table bytes s = result_and (length_answer (length s)) (loaded take_line (scan Delays bytes) s)
 
 -- a load answers r and makes t of the table s: all lines or none
 abbrev pub Loads : List ℕ → List AnnotatedRow → Result (Unit {0}) FileRefusal → List AnnotatedRow → Type 0

@@ -1,5 +1,5 @@
 -- What a memo over a source means, and what it keeps.
-use Rattle.std.specs.Prelude.{ℕ, ◌%◌, Bool, true, cond, ◌&&◌, List, replicate, ℤ, Some, None, Ok, Err, Option, ◌==◌, nat_le, slice_index_or, slice_set}
+use Rattle.std.specs.Prelude.{ℕ, ◌%◌, Bool, true, false, cond, ◌&&◌, List, replicate, ℤ, Some, None, Ok, Err, Option, ◌==◌, nat_le, slice_index_or, slice_set}
 use Rattle.delay.specs.declared.kept.Kept.{Kept}
 use Rattle.delay.specs.Entries.{Entry, is_tick_count}
 
@@ -10,6 +10,14 @@ recalled (Some k) means arc = cond (k.arc == arc) (Ok k.ticks) (means arc)
 
 abbrev pub memo_means : List (Option Kept) → (ℕ → Entry) → ℕ → Entry
 memo_means kept means arc = recalled (slice_index_or kept (arc % 32) None) means arc
+
+-- whether a place keeps the arc's count
+abbrev pub is_of : ℕ → Option Kept → Bool
+is_of arc None = false
+is_of arc (Some k) = k.arc == arc
+
+abbrev pub keeps : List (Option Kept) → ℕ → Bool
+keeps kept arc = is_of arc (slice_index_or kept (arc % 32) None)
 
 -- a count of an arc put into its place
 abbrev pub with_count : List (Option Kept) → ℕ → ℤ → List (Option Kept)

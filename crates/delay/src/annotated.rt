@@ -30,6 +30,10 @@ impl AnnotatedRow {
     }
 }
 
+const _: () = prove!(!AnnotatedRow::BLANK.marked);
+
+const _: () = prove!(AnnotatedRow::BLANK.ticks == 0);
+
 impl TableRow for AnnotatedRow {
     ghost shows = { annotated_ticks };
 

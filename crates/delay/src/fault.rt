@@ -1,6 +1,6 @@
 // Why a source has no tick count for an arc.
-ghost use Rattle.std.specs.Prelude.{◌≡◌};
-ghost use Rattle.delay.specs.Causes.{cause_number};
+ghost use Rattle.std.specs.Prelude.{◌≡◌, Some};
+ghost use Rattle.delay.specs.Causes.{cause_number, cause_words, fault_words};
 
 use std::fmt;
 
@@ -27,6 +27,8 @@ impl Cause {
 }
 
 impl fmt::Display for Cause {
+    ghost output = { λ cause. Some (cause_words cause) };
+
     fn fmt<W: fmt::Write>(&self, f: &mut fmt::Formatter<W>) -> fmt::Result {
         let words = match *self {
             Cause::Missing => "no row or no mark",
@@ -46,10 +48,14 @@ pub struct Fault {
 }
 
 impl fmt::Display for Fault {
+    ghost output = { λ fault. Some (fault_words fault) };
+
     fn fmt<W: fmt::Write>(&self, f: &mut fmt::Formatter<W>) -> fmt::Result {
-        let cause = self.cause.number();
-        let arc = self.arc;
-        let level = self.level;
-        write!(f, "no delay for arc {arc} (cause {cause}, level {level})")
+        let Fault { cause, arc, level } = *self;
+        let number = cause.number();
+        write!(
+            f,
+            "no delay for arc {arc}: {cause} (cause {number}, level {level})"
+        )
     }
 }

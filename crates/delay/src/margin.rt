@@ -57,6 +57,9 @@ impl<S: Source> Source for Margin<S> {
 
     ghost sound = { λ s. margin_sound s.permille (S.Source.depth s.source) (S.Source.means s.source) (S.Source.sound s.source) };
 
+    // The source below is asked for the same arc.
+    ghost asked = { λ s arc t. (t.permille ≡ s.permille) × S.Source.asked s.source arc t.source };
+
     fn delay(&mut self, arc: u16) -> Result<i32, Fault> {
         let ticks = self.source.delay(arc)?;
         ranged_ticks(

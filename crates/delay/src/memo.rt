@@ -1,6 +1,6 @@
 // A layer that keeps the first tick count asked at each of 32 places.
-ghost use Rattle.std.specs.Prelude.{◌≡◌, ℕ, true, None, slice_index_or};
-ghost use Rattle.delay.specs.Memo.{memo_means, kept_after, keepable, no_counts, with_count};
+ghost use Rattle.std.specs.Prelude.{◌≡◌, ℕ, true, None, MatchBool, slice_index_or};
+ghost use Rattle.delay.specs.Memo.{memo_means, kept_after, keepable, keeps, no_counts, with_count};
 ghost use Rattle.delay.specs.Sounds.{memo_sound};
 
 use crate::fault::Fault;
@@ -48,12 +48,10 @@ impl<S: Source> Source for Memo<S> {
 
     ghost sound = { λ s. memo_sound s.kept (S.Source.means s.source) s.ok (S.Source.sound s.source) };
 
-    fn delay(&mut self, arc: u16) -> Result<i32, Fault>
-        ensures value { result ≡ memo_means self.old.kept (S.Source.means self.old.source) arc }
-        ensures same { memo_means self.new.kept (S.Source.means self.new.source) ≡ memo_means self.old.kept (S.Source.means self.old.source) }
-        ensures level { S.Source.depth self.new.source ≡ S.Source.depth self.old.source }
-        ensures kept { self.new.kept ≡ kept_after self.old.kept arc result }
-    {
+    // The source below is left alone where the arc's count is kept, and is asked for the same arc where it is not.
+    ghost asked = { λ s arc t. (t.kept ≡ kept_after s.kept arc (memo_means s.kept (S.Source.means s.source) arc)) × MatchBool (keeps s.kept arc) (t.source ≡ s.source) (S.Source.asked s.source arc t.source) };
+
+    fn delay(&mut self, arc: u16) -> Result<i32, Fault> {
         let kept = self.kept[arc as usize % PLACES];
         match kept {
             Some(first) if first.arc == arc => Ok(first.ticks),

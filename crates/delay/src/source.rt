@@ -18,11 +18,15 @@ pub trait Source {
     // What each source shows of its meaning.
     ghost sound: { (s : Self) → Sound (means s) };
 
+    // What an asking of an arc makes of the source.
+    ghost asked: { Self → ℕ → Self → Type 0 };
+
     // What the source means for the arc. It may keep what it found, and means the same afterwards.
     fn delay(&mut self, arc: u16) -> Result<i32, Fault>
         ensures value { result ≡ means self.old arc }
         ensures same { means self.new ≡ means self.old }
-        ensures level { depth self.new ≡ depth self.old };
+        ensures level { depth self.new ≡ depth self.old }
+        ensures asked { asked self.old arc self.new };
 
     fn level(&self) -> u8
         ensures { result ≡ depth self.now };

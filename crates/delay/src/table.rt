@@ -49,6 +49,9 @@ impl<'a, R: TableRow> Source for Table<'a, R> {
 
     ghost sound = { λ s. tabled_sound (map R.TableRow.shows s.rows.now) };
 
+    // A table stays as it is.
+    ghost asked = { λ s _ t. t ≡ s };
+
     fn delay(&mut self, arc: u16) -> Result<i32, Fault> {
         row_entry(arc, look_up(self.rows, arc))
     }

@@ -1,5 +1,5 @@
 // What layers answer, the levels of their faults, and what a memo keeps.
-ghost use Rattle.std.specs.Prelude.{map};
+ghost use Rattle.std.specs.Prelude.{◌≡◌, map};
 ghost use Rattle.delay.specs.Annotated.{annotated_ticks};
 ghost use Rattle.delay.specs.Tables.{tabled};
 ghost use Rattle.delay.specs.Sounds.{tabled_sound};
@@ -91,6 +91,8 @@ impl<'a> Source for Counting<'a> {
     ghost depth = { λ _. 0 };
 
     ghost sound = { λ s. tabled_sound (map annotated_ticks s.table.rows.now) };
+
+    ghost asked = { λ s _ t. t.table ≡ s.table };
 
     fn delay(&mut self, arc: u16) -> Result<i32, Fault> {
         self.asked.set(self.asked.get().wrapping_add(1));

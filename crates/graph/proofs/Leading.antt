@@ -1,5 +1,6 @@
 -- The computed pair is the pair by paths.
 use Rattle.std.proofs.Common.{◌≡◌, ℕ, zero, suc, ◌+◌, ◌<◌, ◌≤◌, Bool, true, false, cond, not, ◌||◌, eqb, List, [], ◌∷◌, map, length, get_or, ℤ, nat_abs, Some, None, Ok, Err, Decides, MatchBool, Option, Result, sym, refl, ap, ◌∙◌, ⊎_elim, arith}
+use Rattle.std.specs.List.{list_any}
 use Rattle.std.proofs.lemmas.List.{length-map, ext_get_or, get_or-map}
 use Rattle.std.proofs.lemmas.Bool.{and_parts, and_from, both_ways, cases_Bool, eqb-true, eq-eqb, or_cases, or_right}
 use Rattle.std.proofs.lemmas.Bool.Decides.{same_from_decides, when_true, when_false}
@@ -13,24 +14,24 @@ use Rattle.graph.specs.declared.parts.ArcEnd.TheVariants.{Tail, Head}
 use Rattle.graph.specs.Index.{node_at, key_of}
 use Rattle.graph.specs.Sets.{in_set, set_again, with_set}
 use Rattle.graph.specs.Pair.{Marked, PairedIn, Paired}
-use Rattle.graph.specs.Computed.{any, leaves_for, leads, lies_between, paired_arc, pair_in, with_pair}
+use Rattle.graph.specs.Computed.{leaves_for, leads, lies_between, paired_arc, pair_in, with_pair}
 use Rattle.graph.proofs.Slots.{slot_at, none_some}
 use Rattle.graph.proofs.Marks.{three_true, in_bounds}
 
 -- some arc of the list passes a test that no missing arc passes
-any_some : (p : Option LiveArc → Bool) → p None ≡ false → (os : List (Option LiveArc)) → any p os ≡ true
+any_some : (p : Option LiveArc → Bool) → p None ≡ false → (os : List (Option LiveArc)) → list_any p os ≡ true
     → (n : ℕ) × ((e : LiveArc) × Live os n e × (p (Some e) ≡ true))
 any_some p z [] h = absurd (both_ways false refl h)
-any_some p z (o ∷ os) h = ⊎_elim (here o) (λ q. let r = any_some p z os q in (suc r.0, r.1)) (or_cases (p o) (any p os) h)
+any_some p z (o ∷ os) h = ⊎_elim (here o) (λ q. let r = any_some p z os q in (suc r.0, r.1)) (or_cases (p o) (list_any p os) h)
   where
     here : (o : Option LiveArc) → p o ≡ true → (n : ℕ) × ((e : LiveArc) × Live (o ∷ os) n e × (p (Some e) ≡ true))
     here None q = absurd (both_ways _ z q)
     here (Some e) q = (0, (e, refl, q))
 
-any_at : (p : Option LiveArc → Bool) (os : List (Option LiveArc)) (n : ℕ) (e : LiveArc) → Live os n e → p (Some e) ≡ true → any p os ≡ true
+any_at : (p : Option LiveArc → Bool) (os : List (Option LiveArc)) (n : ℕ) (e : LiveArc) → Live os n e → p (Some e) ≡ true → list_any p os ≡ true
 any_at p [] n e l h = absurd (none_some e l)
-any_at p (o ∷ os) zero e l h = ap (λ x. p x || any p os) l ∙ ap (λ t. t || any p os) h
-any_at p (o ∷ os) (suc n) e l h = or_right (p o) (any p os) (any_at p os n e l h)
+any_at p (o ∷ os) zero e l h = ap (λ x. p x || list_any p os) l ∙ ap (λ t. t || list_any p os) h
+any_at p (o ∷ os) (suc n) e l h = or_right (p o) (list_any p os) (any_at p os n e l h)
 
 module _ (arcs : List (Option LiveArc)) where
   leads_sound : (k u v : ℕ) → leads arcs k u v ≡ true → Reach arcs u v
@@ -43,11 +44,11 @@ module _ (arcs : List (Option LiveArc)) where
       let t = and_parts (eqb e.from u) (leads arcs k e.to v) x.1.2 in
       let r = leads_sound k e.to v t.1 in
       (x.0 ∷ r.0, (e, x.1.1, eqb-true e.from u t.0, r.1)))
-      (or_cases (eqb u v) (any (leaves_for u (λ w. leads arcs k w v)) arcs) h)
+      (or_cases (eqb u v) (list_any (leaves_for u (λ w. leads arcs k w v)) arcs) h)
 
   leads_all : (k u v : ℕ) (ns : List ℕ) → length ns ≤ k → Walks arcs u ns v → leads arcs k u v ≡ true
   leads_all zero u v [] h w = eq-eqb u v w
-  leads_all (suc k) u v [] h w = ap (λ t. t || any (leaves_for u (λ w. leads arcs k w v)) arcs) (eq-eqb u v w)
+  leads_all (suc k) u v [] h w = ap (λ t. t || list_any (leaves_for u (λ w. leads arcs k w v)) arcs) (eq-eqb u v w)
   leads_all zero u v (n ∷ ns) h w = absurd (omega arith)
   leads_all (suc k) u v (n ∷ ns) h w =
       or_right (eqb u v) _ (any_at (leaves_for u (λ x. leads arcs k x v)) arcs n w.0 w.1
@@ -89,7 +90,7 @@ cond_none true = refl
 cond_none false = refl
 
 pair_in_holds : (b : Block) (s u v : ℕ) → Rising b.arcs → v < 256 → PairedIn b s u v (pair_in b s u v).answer (pair_in b s u v).after
-pair_in_holds b s u v up in' = go (any (lies_between b.arcs u v) b.arcs) refl
+pair_in_holds b s u v up in' = go (list_any (lies_between b.arcs u v) b.arcs) refl
   where
     f : Option LiveArc → Option LiveArc
     f = paired_arc b.arcs s u v
@@ -97,18 +98,18 @@ pair_in_holds b s u v up in' = go (any (lies_between b.arcs u v) b.arcs) refl
     new : Block
     new = record { taken = b.taken; arcs = map f b.arcs; starts = b.starts; ends = b.ends }
 
-    some : any (lies_between b.arcs u v) b.arcs ≡ true → (n : ℕ) × Between b.arcs u v n
+    some : list_any (lies_between b.arcs u v) b.arcs ≡ true → (n : ℕ) × Between b.arcs u v n
     some h =
         let x = any_some (lies_between b.arcs u v) (lies_none b.arcs u v) b.arcs h in
         (x.0, lies_sound b.arcs u v (get_or b.arcs x.0 None) (ap (lies_between b.arcs u v) x.1.1 ∙ x.1.2))
 
-    none : any (lies_between b.arcs u v) b.arcs ≡ false → (n : ℕ) → Between b.arcs u v n → ⊥
+    none : list_any (lies_between b.arcs u v) b.arcs ≡ false → (n : ℕ) → Between b.arcs u v n → ⊥
     none h n k = both_ways _ h (any_at (lies_between b.arcs u v) b.arcs n k.0 k.1 (ap (lies_between b.arcs u v) (sym k.1) ∙ lies_all b.arcs up u v n in' k))
 
     done : Outcome (Unit {0})
     done = accepted tt new
 
-    go : (t : Bool) → any (lies_between b.arcs u v) b.arcs ≡ t
+    go : (t : Bool) → list_any (lies_between b.arcs u v) b.arcs ≡ t
         → PairedIn b s u v (cond t done (refused b 11)).answer (cond t done (refused b 11)).after
     go true h = (
       some h,

@@ -1,5 +1,6 @@
 -- A line's call as a function of the block, as the reader's load asks for it.
-use Rattle.std.specs.Prelude.{ℕ, zero, suc, Bool, false, cond, not, ◌&&◌, ◌||◌, List, [], ◌∷◌, map, ℤ, Some, None, Ok, Err, Option, Result, ◌==◌, unsigned_abs}
+use Rattle.std.specs.Prelude.{ℕ, zero, suc, Bool, false, cond, not, ◌&&◌, ◌||◌, List, map, ℤ, Some, None, Ok, Err, Option, Result, ◌==◌, unsigned_abs}
+use Rattle.std.specs.List.{list_any}
 use Rattle.reader.specs.declared.records.Side.TheVariants.{Start, End}
 use Rattle.reader.specs.declared.records.Record.{Record}
 use Rattle.reader.specs.declared.records.Record.TheVariants.{Arc, Delay, Bound, Pair}
@@ -7,10 +8,6 @@ use Rattle.graph.specs.declared.parts.LiveArc.{LiveArc}
 use Rattle.graph.specs.Ranges.{is_node, is_set}
 use Rattle.graph.specs.Block.{Block, Outcome, accepted, refused, verdict, with_arc, with_start, with_end}
 use Rattle.graph.specs.Sets.{in_set}
-
-abbrev pub any : (Option LiveArc → Bool) → List (Option LiveArc) → Bool
-any test [] = false
-any test (o ∷ os) = test o || any test os
 
 -- an arc from u whose head passes the test
 abbrev pub leaves_for : ℕ → (ℕ → Bool) → Option LiveArc → Bool
@@ -20,7 +17,7 @@ leaves_for u test (Some e) = e.from == u && test e.to
 -- a path of at most k live arcs leads from u to v
 abbrev pub leads : List (Option LiveArc) → ℕ → ℕ → ℕ → Bool
 leads arcs zero u v = u == v
-leads arcs (suc k) u v = u == v || any (leaves_for u (λ w. leads arcs k w v)) arcs
+leads arcs (suc k) u v = u == v || list_any (leaves_for u (λ w. leads arcs k w v)) arcs
 
 -- the arc lies on a path from u to v; no path has more than 255 arcs
 unfoldable pub lies_between : List (Option LiveArc) → ℕ → ℕ → Option LiveArc → Bool
@@ -32,7 +29,7 @@ paired_arc arcs s u v o = cond (lies_between arcs u v o) (in_set s o) o
 
 abbrev pub pair_in : Block → ℕ → ℕ → ℕ → Outcome Unit
 pair_in b s u v =
-    cond (any (lies_between b.arcs u v) b.arcs)
+    cond (list_any (lies_between b.arcs u v) b.arcs)
     (accepted tt (record { taken = b.taken; arcs = map (paired_arc b.arcs s u v) b.arcs; starts = b.starts; ends = b.ends }))
     (refused b 11)
 

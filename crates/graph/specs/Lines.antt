@@ -6,7 +6,7 @@ use Rattle.reader.specs.declared.records.Side.TheVariants.{Start, End}
 use Rattle.reader.specs.declared.records.Record.{Record}
 use Rattle.reader.specs.declared.records.Record.TheVariants.{Arc, Delay, Bound, Pair}
 use Rattle.reader.specs.declared.faults.FileRefusal.{FileRefusal}
-use Rattle.reader.specs.Faults.{number_of}
+use Rattle.reader.specs.declared.faults.FileFault.TheVariants.{Call}
 use Rattle.reader.specs.Format.{Scan}
 use Rattle.reader.specs.Loading.{Leaves}
 use Rattle.graph.specs.declared.parts.GraphFile.{GraphFile}
@@ -31,17 +31,12 @@ Line b (Pair set from to) r b' = Paired b set from to r b'
 Line b (Delay arc ticks) r b' = (r ≡ Err 6) × (b' ≡ b)
 
 -- the lines' calls, of which the first is line l, and then the file's own ending:
--- the block after all of them, or the number and the line of the first refusal
-abbrev pub Lines : Block → List Record → Option FileRefusal → ℕ → Result Block (ℕ × ℕ) → Type 0
+-- the block after all of them, or the first refusal: a call's, by its number, in its line, or else the file's own
+abbrev pub Lines : Block → List Record → Option FileRefusal → ℕ → Result Block FileRefusal → Type 0
 Lines b [] None l w = w ≡ Ok b
-Lines b [] (Some e) l w = w ≡ Err (number_of e.fault, e.line)
-Lines b (x ∷ xs) e l w = (r : Result Unit ℕ) × (m : Block) × Line b x r m × MatchResult r (λ _. Lines m xs e (l + 1) w) (λ n. w ≡ Err (n, l))
+Lines b [] (Some e) l w = w ≡ Err e
+Lines b (x ∷ xs) e l w = (r : Result Unit ℕ) × (m : Block) × Line b x r m × MatchResult r (λ _. Lines m xs e (l + 1) w) (λ n. w ≡ Err (record { fault = Call n; line = l }))
 
 -- all or none
-abbrev pub Loads : Block → Scan → Result Unit (ℕ × ℕ) → Block → Type 0
-Loads b file r b' = (w : Result Block (ℕ × ℕ)) × Lines b file.records file.ending 2 w × Leaves w b r b'
-
--- a file's refusal by its number and line
-abbrev pub placed : {A : Type 0} → Result A FileRefusal → Result A (ℕ × ℕ)
-placed (Ok a) = Ok a
-placed (Err e) = Err (number_of e.fault, e.line)
+abbrev pub Loads : Block → Scan → Result Unit FileRefusal → Block → Type 0
+Loads b file r b' = (w : Result Block FileRefusal) × Lines b file.records file.ending 2 w × Leaves w b r b'

@@ -6,7 +6,7 @@ ghost use Rattle.graph.specs.Refusals.{numbered, refusal_number};
 ghost use Rattle.graph.specs.Block.{Block, block_of, verdict, with_arc};
 ghost use Rattle.graph.specs.Pair.{Paired};
 ghost use Rattle.graph.specs.Computed.{line_step};
-ghost use Rattle.graph.specs.Lines.{kind_of, placed, Loads};
+ghost use Rattle.graph.specs.Lines.{kind_of, Loads};
 
 use crate::loading::Loading;
 use crate::parts::{GraphFile, Refusal};
@@ -104,7 +104,7 @@ impl Sink for Loading {
 impl TimingGraph {
     // Makes the calls of a file's lines in order, all or none.
     pub fn load(&mut self, file: GraphFile, bytes: &[u8]) -> Result<(), FileRefusal>
-        ensures { Loads (block_of self.old) (scan (kind_of file) bytes.now) (placed result) (block_of self.new) }
+        ensures { Loads (block_of self.old) (scan (kind_of file) bytes.now) result (block_of self.new) }
     {
         let mut loading = Loading::on(self);
         run(file.into(), bytes, &mut loading)?;

@@ -1,5 +1,5 @@
 // What a timing graph is made of, in a form that C can share, and why a call is refused.
-ghost use Rattle.std.specs.Prelude.{◌≡◌, ◌<◌};
+ghost use Rattle.std.specs.Prelude.{◌≡◌, ◌<◌, Some};
 
 use std::fmt;
 
@@ -92,6 +92,12 @@ impl Refusal {
 }
 
 impl fmt::Display for Refusal {
+    ghost use Rattle.reader.specs.Words.{turned_down};
+    ghost use Rattle.graph.specs.Refusals.{refusal_number};
+
+    // The words of its number in a file's refusal.
+    ghost output = { λ refusal. Some (turned_down (refusal_number refusal)) };
+
     fn fmt<W: fmt::Write>(&self, f: &mut fmt::Formatter<W>) -> fmt::Result {
         let words = match *self {
             Refusal::OutOfRange => "a number is out of range",

@@ -5,7 +5,8 @@ use Rattle.ledger.proofs.Settling.{all_settled}
 use Rattle.history.specs.declared.steps.Step.{Step}
 use Rattle.history.specs.declared.steps.Step.TheVariants as step
 use Rattle.history.specs.Answers.{Answer, acted}
-use Rattle.history.specs.Steps.{Terms, State, Goes, Runs}
+use Rattle.timing.specs.Terms.{Terms}
+use Rattle.history.specs.Steps.{State, Goes, Runs}
 use Rattle.history.specs.Laws.{StepsSettle}
 
 abbrev first_of : answers.Answer → List answers.Answer → answers.Answer

@@ -11,7 +11,8 @@ use Rattle.history.specs.declared.steps.Step.{Step}
 use Rattle.history.specs.declared.steps.Step.TheVariants as step
 use Rattle.history.specs.declared.steps.StepReply.{StepReply}
 use Rattle.history.specs.Answers.{answer_of}
-use Rattle.history.specs.Steps.{Terms, State, Goes, open_after, nested}
+use Rattle.timing.specs.Terms.{Terms}
+use Rattle.history.specs.Steps.{State, Goes, open_after, nested}
 use Rattle.history.specs.Readings.{Reads}
 
 module _ {R : Type 0} (k : Terms R) (l : Ledger) (t : Tables R) (list : List ℕ) (t' : Tables R) (list' : List ℕ) where

@@ -23,10 +23,11 @@ use Rattle.sheet.specs.Traces.{no_arcs}
 use Rattle.sheet.specs.Written.{by_nodes}
 use Rattle.history.specs.declared.steps.Step.TheVariants as step
 use Rattle.history.specs.Answers.{Answer, acted, timed, traced}
-use Rattle.history.specs.Steps.{Terms, State, new, timing_of, Goes, Runs}
-use Rattle.history.specs.Promise.{TimingAgrees}
+use Rattle.timing.specs.Terms.{Terms}
+use Rattle.timing.specs.Agreement.{TimingAgrees}
+use Rattle.timing.proofs.Agreeing.{timing_agrees, settled}
+use Rattle.history.specs.Steps.{State, new, timing_of, Goes, Runs}
 use Rattle.history.specs.Worked.{worked_calls, worked_terms, worked_tables, WorkedHistory}
-use Rattle.history.proofs.Agreeing.{timing_agrees, settled}
 
 -- ---- calls as steps
 abbrev answered : Block → List Call → List Answer
@@ -69,7 +70,7 @@ traced_state = record { ledger = closed content; tables = timed_tables; list = 2
 calls_first : Runs worked_terms (new worked_tables (no_arcs 255)) (map (λ c. step.Act (Make c)) worked_calls) (answered blank worked_calls) (at worked_terms worked_tables (no_arcs 255) content)
 calls_first = calls_run worked_terms worked_tables (no_arcs 255) worked_calls blank kept_blank
 
-agrees : TimingAgrees worked_terms content worked_tables (timed (timing_of worked_terms content worked_tables).answer) timed_tables
+agrees : TimingAgrees worked_terms content worked_tables (timing_of worked_terms content worked_tables).answer timed_tables
 agrees = timing_agrees 1 (not_after in_ticks) (time_row in_ticks) (arc_row in_ticks) (laws_in in_ticks) worked_terms.means content (kept_left worked_calls blank kept_blank) worked_tables _ _ refl refl
 
 pub worked : WorkedHistory
@@ -82,6 +83,7 @@ worked = record {
   ran =
       runs_append (Goes worked_terms) (new worked_tables (no_arcs 255)) (map (λ c. step.Act (Make c)) worked_calls) (answered blank worked_calls) (at worked_terms worked_tables (no_arcs 255) content)
       (step.Time ∷ step.Trace (pos 2) ∷ []) (timed (Ok 2) ∷ traced (Ok (Some 1)) ∷ []) traced_state calls_first (timed_state, (refl, refl), (traced_state, (refl, refl), refl));
+  mirrored = agrees.has_lines block refl;
   accepted = agrees.accepted refl _ refl _ is_sheet.sheet_is (lit≤ tt);
   entry_of_2 = refl;
   slack_of_2 = refl;

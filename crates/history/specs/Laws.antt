@@ -3,7 +3,8 @@ use Rattle.std.specs.Prelude.{◌≡◌, ℕ, List}
 use Rattle.measure.specs.Rows.{Row}
 use Rattle.history.specs.declared.steps.Step.{Step}
 use Rattle.history.specs.Answers.{Answer}
-use Rattle.history.specs.Steps.{Terms, State, Runs}
+use Rattle.timing.specs.Terms.{Terms}
+use Rattle.history.specs.Steps.{State, Runs}
 
 -- the steps, the measure and what the source means settle the answers and the state after them
 abbrev pub StepsSettle : Type 0

@@ -9,7 +9,8 @@ use Rattle.history.specs.declared.steps.Step.{Step}
 use Rattle.history.specs.declared.steps.Step.TheVariants as step
 use Rattle.history.specs.declared.steps.StepReply.{StepReply}
 use Rattle.history.specs.Answers.{Answer, acted, timed, traced, answer_of}
-use Rattle.history.specs.Steps.{Terms, timing_of}
+use Rattle.timing.specs.Terms.{Terms}
+use Rattle.history.specs.Steps.{timing_of}
 
 -- an answer, and the tables and the list after it
 pub record Answered {R : Type 0} (a : Answer) (t : Tables R) (list : List ℕ) (r : Option StepReply) (t' : Tables R) (list' : List ℕ) : Type 0 where

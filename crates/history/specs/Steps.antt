@@ -1,6 +1,5 @@
 -- What each step of a history answers and leaves, and a run of steps.
-use Rattle.std.specs.Prelude.{◌≡◌, ℕ, Bool, false, List, length, ℤ, Some, Option}
-use Rattle.delay.specs.Entries.{Entry}
+use Rattle.std.specs.Prelude.{◌≡◌, ℕ, Bool, false, List, length, Some, Option}
 use Rattle.graph.specs.Block.{Block, blank}
 use Rattle.ledger.specs.declared.words.Misuse.{Misuse}
 use Rattle.ledger.specs.declared.words.Misuse.TheVariants.{Lengths, Nesting}
@@ -8,32 +7,15 @@ use Rattle.ledger.specs.Answers as answers
 use Rattle.ledger.specs.Ledger as ledger
 use Rattle.ledger.specs.Ledger.{Ledger, closed, Acts}
 use Rattle.ledger.specs.Histories.{RunsBy, nested_by}
-use Rattle.measure.specs.declared.measure.Measure.{Ghosts as Measure}
-use Rattle.measure.specs.Rows.{Row}
-use Rattle.paths.specs.Rows.{Rows, rows}
 use Rattle.paths.specs.Graphs.{by_node, row_block}
 use Rattle.sheet.specs.Tables.{Tables}
 use Rattle.sheet.specs.Traces.{trace_outcome}
 use Rattle.timing.specs.Times.{TimeOutcome, time_outcome}
+use Rattle.timing.specs.Terms.{Terms}
 use Rattle.history.specs.declared.steps.Step.{Step}
 use Rattle.history.specs.declared.steps.Step.TheVariants.{Act, Time, Trace}
 use Rattle.history.specs.declared.steps.StepReply.{StepReply}
 use Rattle.history.specs.Answers.{Answer, acted, timed, traced}
-
--- what the timer is used with: a measure's rows, and what a delay source means
-pub record Terms (R : Type 0) : Type 0 where
-  pub rows : Rows R
-  pub row_of_time : ℤ → R
-  pub row_of_arc : ℤ → R
-  pub means : ℕ → Entry
-
--- for the rows of one measure
-abbrev pub terms : (w : ℕ) → (Row w → Row w → Bool) → (ℤ → Row w) → (ℤ → Row w) → (ℕ → Entry) → Terms (Row w)
-terms w not_later row_of_time row_of_arc means = record { rows = rows w not_later; row_of_time = row_of_time; row_of_arc = row_of_arc; means = means }
-
--- by what a measure names of itself
-abbrev pub terms_of : {M : Type 0} → (m : Measure M) → (ℕ → Entry) → Terms (Row m.width)
-terms_of m means = terms m.width m.not_later m.row_of_time m.row_of_arc means
 
 -- the ledger of the acts, and the tables and the list of arcs that the timer writes
 pub record State (R : Type 0) : Type 0 where

@@ -15,8 +15,9 @@ use Rattle.sheet.specs.Traces.{no_arcs}
 use Rattle.history.specs.declared.steps.Step.{Step}
 use Rattle.history.specs.declared.steps.Step.TheVariants as step
 use Rattle.history.specs.Answers.{Answer, acted, timed, traced}
-use Rattle.history.specs.Steps.{Terms, terms, at_rest, new, Runs}
-use Rattle.history.specs.Promise.{Accepted}
+use Rattle.timing.specs.Terms.{Terms, terms}
+use Rattle.timing.specs.Agreement.{LinesOf, Accepted}
+use Rattle.history.specs.Steps.{at_rest, new, Runs}
 
 -- two ways from node 0 to node 2: over node 1 in 20 ticks, and straight in 15. Set 0 holds arc 0 alone, so that the slower way is false.
 abbrev pub worked_calls : List Call
@@ -53,7 +54,8 @@ pub record WorkedHistory : Type 0 where
   pub lines : List (Timed (Row 1))
   pub tables : Tables (Row 1)
   pub ran : Runs worked_terms (new worked_tables (no_arcs 255)) worked_steps worked_answers (at_rest content tables (2 ∷ no_arcs 254))
-  pub accepted : Accepted worked_terms content worked_tables (timed (Ok 2)) tables block lines
+  pub mirrored : LinesOf worked_terms content block
+  pub accepted : Accepted worked_terms content worked_tables (Ok 2) tables block lines
   pub entry_of_2 : slice_index_or tables.nodes 2 blank_entry ≡ record { timed = true; line = 1 }
   pub slack_of_2 : slice_index_or tables.slacks 2 (zeros 1) ≡ (pos 8, tt)
   pub entry_of_1 : slice_index_or tables.nodes 1 blank_entry ≡ blank_entry

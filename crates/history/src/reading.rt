@@ -2,7 +2,7 @@
 ghost use Rattle.std.specs.Prelude.{◌≡◌};
 ghost use Rattle.graph.specs.Block.{block_of};
 ghost use Rattle.sheet.specs.Lent.{tables_in, SameLoans};
-ghost use Rattle.history.specs.Steps.{terms_of};
+ghost use Rattle.timing.specs.Terms.{terms_of};
 ghost use Rattle.history.specs.Readings.{Reads};
 
 use crate::steps::{Step, StepReply};

@@ -4,7 +4,8 @@ ghost use Rattle.graph.specs.Block.{block_of};
 ghost use Rattle.ledger.specs.declared.words.Act.TheVariants.{Open};
 ghost use Rattle.sheet.specs.Lent.{tables_in, SameLoans};
 ghost use Rattle.history.specs.Answers.{answer_of};
-ghost use Rattle.history.specs.Steps.{terms_of, at_rest, new, Runs, open_after, nested, Misused};
+ghost use Rattle.timing.specs.Terms.{terms_of};
+ghost use Rattle.history.specs.Steps.{at_rest, new, Runs, open_after, nested, Misused};
 ghost use Rattle.history.specs.Readings.{is_reading};
 ghost use Rattle.history.specs.Promise.{HistoriesAgree};
 

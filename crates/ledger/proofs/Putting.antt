@@ -7,6 +7,7 @@ use Rattle.reader.specs.declared.records.Side.TheVariants.{Start, End as Ending}
 use Rattle.reader.specs.declared.records.Record.{Record}
 use Rattle.reader.specs.declared.records.Record.TheVariants as line
 use Rattle.reader.specs.declared.faults.FileRefusal.{FileRefusal}
+use Rattle.reader.specs.declared.faults.FileFault.TheVariants.{Call as Turned}
 use Rattle.reader.specs.Files.{Fitting, AcceptedGood}
 use Rattle.reader.specs.Format.{Scan, scan}
 use Rattle.reader.specs.Loading.{Leaves}
@@ -43,7 +44,7 @@ pub record Moves (b : Block) (c : Call) (a : Answer) (b' : Block) (s n : ℕ) : 
 refusal_done : (n : ℕ) → call_answer (Err n) ≡ done → ⊥
 refusal_done n h = let z : ◌≡◌ {A = ℕ} 0 1 = cc in omega arith
 
-load_refusal_done : (e : ℕ × ℕ) → load_answer (Err e) ≡ done → ⊥
+load_refusal_done : (e : FileRefusal) → load_answer (Err e) ≡ done → ⊥
 load_refusal_done e h = let z : ◌≡◌ {A = ℕ} 0 1 = cc in omega arith
 
 -- a call that moves no arc in or out of a set
@@ -66,9 +67,9 @@ same_line b (line.Delay i t) r m k no-pair l = subst (SameSets b) (sym l.1) (sam
 
 -- the first line was accepted, where all were
 next : (r : Result Unit ℕ) (m : Block) (xs : List Record) (e : Option FileRefusal) (l : ℕ) (b' : Block)
-    → MatchResult r (λ _. Lines m xs e (l + 1) (Ok b')) (λ i. ◌≡◌ {A = Result Block (ℕ × ℕ)} (Ok b') (Err (i, l))) → (r ≡ Ok tt) × Lines m xs e (l + 1) (Ok b')
+    → MatchResult r (λ _. Lines m xs e (l + 1) (Ok b')) (λ i. ◌≡◌ {A = Result Block FileRefusal} (Ok b') (Err (record { fault = Turned i; line = l }))) → (r ≡ Ok tt) × Lines m xs e (l + 1) (Ok b')
 next (Ok _) m xs e l b' q = (refl, q)
-next (Err i) m xs e l b' q = absurd (ok_err b' (i, l) q)
+next (Err i) m xs e l b' q = absurd (ok_err b' _ q)
 
 same_lines : (b : Block) (xs : List Record) (e : Option FileRefusal) (l : ℕ) (b' : Block) → Kept b → AllByRecursion NoPair xs → Lines b xs e l (Ok b') → SameSets b b'
 same_lines b [] None l b' k f p = subst (SameSets b) (sym (ok_same b' b p)) (same_sets b)
@@ -134,15 +135,15 @@ no_pair_bound (line.Pair g u v) h = absurd (let q = h.kind in let z : ◌≡◌ 
 no_pair_bound (line.Delay k t) h = tt
 
 -- a refused load
-load_refused : (b : Block) (c : Call) (a : Answer) (b' : Block) (s n : ℕ) (e : ℕ × ℕ) → b' ≡ b → a ≡ load_answer (Err e) → Moves b c a b' s n
+load_refused : (b : Block) (c : Call) (a : Answer) (b' : Block) (s n : ℕ) (e : FileRefusal) → b' ≡ b → a ≡ load_answer (Err e) → Moves b c a b' s n
 load_refused b c a b' s n e q h = still b c a b' s n (subst (SameSets b) (sym q) (same_sets b)) (λ k. load_refusal_done e (sym h ∙ k.2))
 
 module _ (good : AcceptedGood) where
   -- a load whose file has no pair line
-  same_load : (b : Block) (k : _) (bs : List ℕ) (r : Result Unit (ℕ × ℕ)) (b' : Block) → Kept b → ((x : Record) → Fitting k x → NoPair x) → Loads b (scan k bs) r b' → SameSets b b'
+  same_load : (b : Block) (k : _) (bs : List ℕ) (r : Result Unit FileRefusal) (b' : Block) → Kept b → ((x : Record) → Fitting k x → NoPair x) → Loads b (scan k bs) r b' → SameSets b b'
   same_load b k bs r b' kept none p = by p.0 p.1 p.2
     where
-      by : (w : Result Block (ℕ × ℕ)) → Lines b (scan k bs).records (scan k bs).ending 2 w → Leaves w b r b' → SameSets b b'
+      by : (w : Result Block FileRefusal) → Lines b (scan k bs).records (scan k bs).ending 2 w → Leaves w b r b' → SameSets b b'
       by (Err e) h q = subst (SameSets b) (sym q.1) (same_sets b)
       by (Ok m) h q =
           let fits = (good k bs (ending_none b (scan k bs).records (scan k bs).ending 2 m h)).fitting in
@@ -177,7 +178,7 @@ module _ (good : AcceptedGood) where
       file : Scan
       file = scan kind.FalseSets bytes.now
 
-      by : (w : Result Block (ℕ × ℕ)) → Lines b file.records file.ending 2 w → (r : Result Unit (ℕ × ℕ)) → a ≡ load_answer r → Leaves w b r b'
+      by : (w : Result Block FileRefusal) → Lines b file.records file.ending 2 w → (r : Result Unit FileRefusal) → a ≡ load_answer r → Leaves w b r b'
           → Moves b (Load FalseSets bytes) a b' s n
       by (Err e) h r q l = load_refused b (Load FalseSets bytes) a b' s n e l.1 (q ∙ ap load_answer l.0)
       by (Ok m) h r q l =

@@ -4,6 +4,7 @@ use Rattle.reader.specs.declared.records.Side.TheVariants.{Start, End as Ending}
 use Rattle.reader.specs.declared.records.Record.{Record}
 use Rattle.reader.specs.declared.records.Record.TheVariants as line
 use Rattle.reader.specs.declared.faults.FileRefusal.{FileRefusal}
+use Rattle.reader.specs.declared.faults.FileFault.TheVariants.{Call as Turned}
 use Rattle.reader.specs.Format.{Scan, scan}
 use Rattle.reader.specs.Loading.{Leaves}
 use Rattle.graph.specs.Block.{Block}
@@ -33,26 +34,26 @@ line_same b (line.Bound n Ending t) r r' m m' p q = both _ _ _ _ _ _ p q
 line_same b (line.Pair s u v) r r' m m' p q = paired_same b s u v r r' m m' p q
 line_same b (line.Delay a t) r r' m m' p q = both _ _ _ _ _ _ p q
 
-lines_same : (b : Block) (xs : List Record) (e : Option FileRefusal) (l : ℕ) (w w' : Result Block (ℕ × ℕ)) → Lines b xs e l w → Lines b xs e l w' → w ≡ w'
+lines_same : (b : Block) (xs : List Record) (e : Option FileRefusal) (l : ℕ) (w w' : Result Block FileRefusal) → Lines b xs e l w → Lines b xs e l w' → w ≡ w'
 lines_same b [] None l w w' p q = p ∙ sym q
 lines_same b [] (Some e) l w w' p q = p ∙ sym q
 lines_same b (x ∷ xs) e l w w' p q =
     let h = line_same b x p.0 q.0 p.1 q.1 p.2 q.2 in
-    let next = subst (λ r. MatchResult r (λ _. Lines p.1 xs e (l + 1) w') (λ n. w' ≡ Err (n, l))) (sym h.0)
-    (subst (λ m. MatchResult q.0 (λ _. Lines m xs e (l + 1) w') (λ n. w' ≡ Err (n, l))) (sym h.1) q.3) in
+    let next = subst (λ r. MatchResult r (λ _. Lines p.1 xs e (l + 1) w') (λ n. w' ≡ Err (record { fault = Turned n; line = l }))) (sym h.0)
+    (subst (λ m. MatchResult q.0 (λ _. Lines m xs e (l + 1) w') (λ n. w' ≡ Err (record { fault = Turned n; line = l }))) (sym h.1) q.3) in
     onward p.0 p.1 xs e l w w' (lines_same p.1 xs e (l + 1) w w') p.3 next
   where
-    onward : (r : Result Unit ℕ) (m : Block) (xs : List Record) (e : Option FileRefusal) (l : ℕ) (w w' : Result Block (ℕ × ℕ))
+    onward : (r : Result Unit ℕ) (m : Block) (xs : List Record) (e : Option FileRefusal) (l : ℕ) (w w' : Result Block FileRefusal)
         → (Lines m xs e (l + 1) w → Lines m xs e (l + 1) w' → w ≡ w')
-        → MatchResult r (λ _. Lines m xs e (l + 1) w) (λ n. w ≡ Err (n, l)) → MatchResult r (λ _. Lines m xs e (l + 1) w') (λ n. w' ≡ Err (n, l)) → w ≡ w'
+        → MatchResult r (λ _. Lines m xs e (l + 1) w) (λ n. w ≡ Err (record { fault = Turned n; line = l })) → MatchResult r (λ _. Lines m xs e (l + 1) w') (λ n. w' ≡ Err (record { fault = Turned n; line = l })) → w ≡ w'
     onward (Ok _) m xs e l w w' again p q = again p q
     onward (Err n) m xs e l w w' again p q = p ∙ sym q
 
-leaves_same : (w : Result Block (ℕ × ℕ)) (b : Block) (r r' : Result Unit (ℕ × ℕ)) (m m' : Block) → Leaves w b r m → Leaves w b r' m' → Same r r' m m'
+leaves_same : (w : Result Block FileRefusal) (b : Block) (r r' : Result Unit FileRefusal) (m m' : Block) → Leaves w b r m → Leaves w b r' m' → Same r r' m m'
 leaves_same (Ok n) b r r' m m' p q = both _ _ _ _ _ _ p q
 leaves_same (Err e) b r r' m m' p q = both _ _ _ _ _ _ p q
 
-loads_same : (b : Block) (file : Scan) (r r' : Result Unit (ℕ × ℕ)) (m m' : Block) → Loads b file r m → Loads b file r' m' → Same r r' m m'
+loads_same : (b : Block) (file : Scan) (r r' : Result Unit FileRefusal) (m m' : Block) → Loads b file r m → Loads b file r' m' → Same r r' m m'
 loads_same b file r r' m m' p q =
     leaves_same p.0 b r r' m m' p.2 (subst (λ w. Leaves w b r' m') (sym (lines_same b file.records file.ending 2 p.0 q.0 p.1 q.1)) q.2)
 

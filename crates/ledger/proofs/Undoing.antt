@@ -2,6 +2,7 @@
 use Rattle.std.proofs.Common.{◌≡◌, ℕ, suc, ◌+◌, List, [], ◌∷◌, ◌++◌, length, ℤ, Some, None, Ok, Err, Option, Result, sym, refl, ap, ◌∙◌, subst, arith, MatchResult}
 use Rattle.reader.specs.declared.records.Record.{Record}
 use Rattle.reader.specs.declared.faults.FileRefusal.{FileRefusal}
+use Rattle.reader.specs.declared.faults.FileFault.TheVariants.{Call as Turned}
 use Rattle.reader.specs.Format.{Scan, scan}
 use Rattle.reader.specs.Loading.{Leaves}
 use Rattle.graph.specs.Block.{Block, Kept, blank, with_trim}
@@ -21,10 +22,10 @@ use Rattle.ledger.specs.Ledger.{Ledger, Trying, no_trial, refused_trial, trial_o
 use Rattle.ledger.specs.Laws.{LedgersKeep, Readings, Undone}
 
 -- the block after the lines, in an accepted load
-pub ok_same : (b m : Block) → ◌≡◌ {A = Result Block (ℕ × ℕ)} (Ok b) (Ok m) → b ≡ m
+pub ok_same : (b m : Block) → ◌≡◌ {A = Result Block FileRefusal} (Ok b) (Ok m) → b ≡ m
 ok_same b m h = cc
 
-pub ok_err : (m : Block) (e : ℕ × ℕ) → ◌≡◌ {A = Result Block (ℕ × ℕ)} (Ok m) (Err e) → ⊥
+pub ok_err : (m : Block) (e : FileRefusal) → ◌≡◌ {A = Result Block FileRefusal} (Ok m) (Err e) → ⊥
 ok_err m e h = let z : ◌≡◌ {A = ℕ} 0 1 = cc in omega arith
 
 kept_lines : (b : Block) (xs : List Record) (e : Option FileRefusal) (l : ℕ) (m : Block) → Kept b → Lines b xs e l (Ok m) → Kept m
@@ -32,15 +33,15 @@ kept_lines b [] None l m k p = subst Kept (sym (ok_same m b p)) k
 kept_lines b [] (Some e) l m k p = absurd (ok_err m _ p)
 kept_lines b (x ∷ xs) e l m k p = onward p.0 p.3 (kept_lines p.1 xs e (l + 1) m (kept_line b x p.0 p.1 k p.2))
   where
-    onward : (r : Result Unit ℕ) → MatchResult r (λ _. Lines p.1 xs e (l + 1) (Ok m)) (λ i. ◌≡◌ {A = Result Block (ℕ × ℕ)} (Ok m) (Err (i, l)))
+    onward : (r : Result Unit ℕ) → MatchResult r (λ _. Lines p.1 xs e (l + 1) (Ok m)) (λ i. ◌≡◌ {A = Result Block FileRefusal} (Ok m) (Err (record { fault = Turned i; line = l })))
         → (Lines p.1 xs e (l + 1) (Ok m) → Kept m) → Kept m
     onward (Ok _) q again = again q
-    onward (Err i) q again = absurd (ok_err m (i, l) q)
+    onward (Err i) q again = absurd (ok_err m _ q)
 
-kept_loads : (b : Block) (file : Scan) (r : Result Unit (ℕ × ℕ)) (b' : Block) → Kept b → Loads b file r b' → Kept b'
+kept_loads : (b : Block) (file : Scan) (r : Result Unit FileRefusal) (b' : Block) → Kept b → Loads b file r b' → Kept b'
 kept_loads b file r b' k p = by p.0 p.1 p.2
   where
-    by : (w : Result Block (ℕ × ℕ)) → Lines b file.records file.ending 2 w → Leaves w b r b' → Kept b'
+    by : (w : Result Block FileRefusal) → Lines b file.records file.ending 2 w → Leaves w b r b' → Kept b'
     by (Ok m) h q = subst Kept (sym q.1) (kept_lines b file.records file.ending 2 m k h)
     by (Err e) h q = subst Kept (sym q.1) k
 

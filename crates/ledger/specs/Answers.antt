@@ -1,6 +1,6 @@
 -- What a history's acts answer.
 use Rattle.std.specs.Prelude.{ℕ, Some, None, Ok, Err, Option, Result}
-use Rattle.reader.specs.Faults.{number_of}
+use Rattle.reader.specs.declared.faults.FileRefusal.{FileRefusal}
 use Rattle.graph.specs.declared.parts.LiveArc.{LiveArc}
 use Rattle.graph.specs.Refusals.{refusal_number}
 use Rattle.ledger.specs.declared.words.Reply.{Reply}
@@ -13,8 +13,8 @@ pub data Answer : Type 0 where
   taken : ℕ → Answer
   -- refused by a number
   refused : ℕ → Answer
-  -- refused by a number, in a line of a file; line 0 is the whole file
-  refused_at : ℕ → ℕ → Answer
+  -- a file is refused, for a fault in a line; line 0 is the whole file
+  refused_file : FileRefusal → Answer
   -- the arc of a number, if it is live
   shows : Option LiveArc → Answer
 
@@ -23,7 +23,7 @@ abbrev pub answer_of : Reply → Answer
 answer_of Done = done
 answer_of (Taken n) = taken n
 answer_of (Refused e) = refused (refusal_number e)
-answer_of (FileRefused e) = refused_at (number_of e.fault) e.line
+answer_of (FileRefused e) = refused_file e
 answer_of (Shown o) = shows o
 
 abbrev pub call_answer : Result Unit ℕ → Answer
@@ -34,9 +34,9 @@ abbrev pub arc_answer : Result ℕ ℕ → Answer
 arc_answer (Ok n) = taken n
 arc_answer (Err n) = refused n
 
-abbrev pub load_answer : Result Unit (ℕ × ℕ) → Answer
+abbrev pub load_answer : Result Unit FileRefusal → Answer
 load_answer (Ok _) = done
-load_answer (Err e) = refused_at e.0 e.1
+load_answer (Err e) = refused_file e
 
 abbrev pub open_answer : Option ℕ → Answer
 open_answer None = done

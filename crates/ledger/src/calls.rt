@@ -1,7 +1,6 @@
 // One call made on a graph.
 ghost use Rattle.std.specs.Prelude.{◌≡◌};
 ghost use Rattle.graph.specs.Refusals.{numbered};
-ghost use Rattle.graph.specs.Lines.{placed};
 ghost use Rattle.graph.specs.Block.{block_of};
 ghost use Rattle.ledger.specs.Answers.{answer_of, call_answer, arc_answer, load_answer};
 ghost use Rattle.ledger.specs.Calls.{Calls};
@@ -27,7 +26,7 @@ impl From<Result<u16, Refusal>> for Reply {
 }
 
 impl From<Result<(), FileRefusal>> for Reply {
-    ghost from_gives = { λ answer reply. answer_of reply ≡ load_answer (placed answer) };
+    ghost from_gives = { λ answer reply. answer_of reply ≡ load_answer answer };
 
     fn from(answer: Result<(), FileRefusal>) -> Reply {
         answer.map_or_else(Reply::FileRefused, |()| Reply::Done)

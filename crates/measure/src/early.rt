@@ -26,6 +26,8 @@ impl<M: Measure> Early<M> {
 impl<M: Measure> Measure for Early<M> {
     const WIDTH: usize = M::WIDTH;
 
+    ghost WIDTH = { M.Measure.WIDTH };
+
     ghost width = { M.Measure.width };
 
     ghost row = { λ x. M.Measure.row x.value };

@@ -7,7 +7,10 @@ pub trait Measure: Copy {
     // The number of places of each row: 1, 2 or 3.
     const WIDTH: usize;
 
-    // What `WIDTH` is, for clauses: a clause cannot name a trait's constant.
+    // The same, for clauses.
+    ghost WIDTH: { ℕ };
+
+    // The width of a row, which is `WIDTH`.
     ghost width: { ℕ };
 
     // What a value means.
@@ -23,7 +26,8 @@ pub trait Measure: Copy {
 
     // `WIDTH`, for generic code whose proof needs its value.
     fn places() -> usize
-        ensures { result ≡ width };
+        ensures width { result ≡ width }
+        ensures constant { result ≡ WIDTH };
 
     fn zero() -> Self
         ensures { row result ≡ zeros width };

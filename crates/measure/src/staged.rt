@@ -29,6 +29,8 @@ fn staged(ticks: i32, stages: i32) -> Option<StagedTicks>
 impl Measure for StagedTicks {
     const WIDTH: usize = 2;
 
+    ghost WIDTH = { 2 };
+
     ghost width = { 2 };
 
     ghost row = { λ x. (x.ticks, (x.stages, tt)) };

@@ -16,6 +16,8 @@ pub struct Ticks {
 impl Measure for Ticks {
     const WIDTH: usize = 1;
 
+    ghost WIDTH = { 1 };
+
     ghost width = { 1 };
 
     ghost row = { λ x. (x.ticks, tt) };

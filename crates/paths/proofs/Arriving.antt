@@ -6,11 +6,11 @@ use Rattle.paths.specs.Rows.{Rows, Before}
 use Rattle.paths.specs.Blocks.{Arc, RowBlock, Live, Rising, pass, passes, ByNumber}
 use Rattle.paths.specs.Times.{Reaches, starts, passed}
 use Rattle.paths.specs.Sheets.{Line, no_arc, no_line, started, entered, sent, over, into, arrivals}
-use Rattle.paths.specs.Relations.{Precedes, InOrder, Wins}
+use Rattle.paths.specs.Relations.{Precedes, InOrder, ByTag, Wins}
 use Rattle.paths.proofs.RowLaws.{Laws, Near, before_refl, before_right}
 use Rattle.paths.proofs.Small.{Tame}
 use Rattle.paths.proofs.Choosing.{Orders, Ascending, append_ascending, In, At, in_nil, by_cond, cond_true, eq_eqb, all_in, in_all, none_some, some_is}
-use Rattle.paths.proofs.Entering.{ByTag, Covered, entered_in, entered_sorted, entered_new}
+use Rattle.paths.proofs.Entering.{Covered, entered_in, entered_sorted, entered_new}
 
 -- the arcs stand by rising number, below the mark for none
 abbrev pub Numbered : {R : Type 0} → RowBlock R → Type 0
@@ -233,7 +233,7 @@ module _ {R : Type 0} (m : Rows R) (b : RowBlock R) where
 
   module _ (laws : Laws m) where
     pub fresh : (v : ℕ) (l : Line R) → In l (entered m (candidates v) []) → In l (candidates v)
-    fresh v l i = go (entered_in laws (candidates v) [] l i)
+    fresh v l i = go (entered_in m (candidates v) [] l i)
       where
         go : In l (candidates v) ⊎ In l [] → In l (candidates v)
         go (inl j) = j
@@ -268,7 +268,7 @@ module _ {R : Type 0} (m : Rows R) (b : RowBlock R) where
     arrivals_order zero = tt
     arrivals_order (suc v) =
         order_append (arrivals m b v) (entered m (candidates v) []) (arrivals_order v)
-        (tags_order v (entered m (candidates v) []) (entered_sorted laws (candidates v) [] tt) node_of)
+        (tags_order v (entered m (candidates v) []) (entered_sorted m (candidates v) [] tt) node_of)
         (λ x y i j. subst (λ n. x.node < n) (sym (node_of y j)) (arrivals_right v x i).node_below)
       where
         node_of : (l : Line R) → In l (entered m (candidates v) []) → l.node ≡ v

@@ -1,6 +1,8 @@
 -- The computed calls are the ledger's, and the worked cases meet what the theorems ask.
 use Rattle.std.proofs.Common.{◌≡◌, ℕ, T, List, [], ◌∷◌, map, is_ok, None, Ok, Err, Result, sym, refl, ap, subst, arith}
 use Rattle.std.specs.Result.{result_unwrap_or}
+use Rattle.reader.specs.declared.faults.FileRefusal.{FileRefusal}
+use Rattle.reader.specs.Faults.{number_of}
 use Rattle.reader.specs.Format.{Scan, scan}
 use Rattle.reader.specs.Loading.{loaded}
 use Rattle.measure.specs.Laws.{Laws}
@@ -9,14 +11,14 @@ use Rattle.measure.specs.Bounds.{bounded_negated}
 use Rattle.measure.specs.Lex.{lex_order}
 use Rattle.graph.specs.Block.{Block, Kept, blank}
 use Rattle.graph.specs.Computed.{lies_between, with_pair, line_step}
-use Rattle.graph.specs.Lines.{Lines, Loads, kind_of, placed}
+use Rattle.graph.specs.Lines.{Lines, Loads, kind_of}
 use Rattle.graph.proofs.Keeping.{kept_blank}
 use Rattle.graph.proofs.Leading.{with_pair_holds}
 use Rattle.graph.proofs.Replayed.{lines_replay}
 use Rattle.ledger.specs.declared.words.Call.{Call}
 use Rattle.ledger.specs.declared.words.Call.TheVariants.{AddArc, DropArc, SetStart, SetEnd, SetTrim, Pair, Clear, Load}
 use Rattle.ledger.specs.declared.words.Act.TheVariants.{Make}
-use Rattle.ledger.specs.Answers.{Answer, done, taken, refused, refused_at, shows, load_answer}
+use Rattle.ledger.specs.Answers.{Answer, done, taken, refused, refused_file, shows, load_answer}
 use Rattle.ledger.specs.Ledger.{Acts, Runs, closed}
 use Rattle.ledger.proofs.Undoing.{kept_acts}
 use Rattle.paths.specs.Blocks.{RowBlock}
@@ -25,8 +27,8 @@ use Rattle.paths.specs.Cases.{Measured, in_ticks, in_early_ticks, not_after, tim
 use Rattle.paths.proofs.Making.{lower_first_suits_lem}
 
 -- ---- calls
-load_holds : (g : Block) (file : Scan) (w : Result Block (ℕ × ℕ)) → Lines g file.records file.ending 2 w
-    → (r : Result Unit (ℕ × ℕ)) × ((load_turn g w).answer ≡ load_answer r) × Loads g file r (load_turn g w).after
+load_holds : (g : Block) (file : Scan) (w : Result Block FileRefusal) → Lines g file.records file.ending 2 w
+    → (r : Result Unit FileRefusal) × ((load_turn g w).answer ≡ load_answer r) × Loads g file r (load_turn g w).after
 load_holds g file (Ok g') h = (Ok tt, refl, (Ok g', h, (refl, refl)))
 load_holds g file (Err e) h = (Err e, refl, (Err e, h, (refl, refl)))
 
@@ -39,7 +41,7 @@ calls_are_computed_lem g k (SetTrim n t) = (refl, refl)
 calls_are_computed_lem g k (Pair s u v) = ((with_pair g s u v).answer, refl, with_pair_holds g s u v k.rising)
 calls_are_computed_lem g k (Clear s) = (refl, refl)
 calls_are_computed_lem g k (Load file bytes) =
-    let f = scan (kind_of file) bytes.now in load_holds g f (placed (loaded line_step f g)) (lines_replay g f.records f.ending 2 k)
+    let f = scan (kind_of file) bytes.now in load_holds g f (loaded line_step f g) (lines_replay g f.records f.ending 2 k)
 
 pub call_acts : (g : Block) → Kept g → (c : Call) → Acts (closed g) (Make c) (called g c).answer (closed (called g c).after)
 call_acts g k c = (refl, refl, calls_are_computed_lem g k c)
@@ -59,7 +61,7 @@ ran_ok cs done g x h = h
 ran_ok cs (taken n) g x h = h
 ran_ok cs (shows o) g x h = h
 ran_ok cs (refused n) g x h = absurd (ran_refused cs n x h)
-ran_ok cs (refused_at n line) g x h = absurd (ran_refused cs n x h)
+ran_ok cs (refused_file e) g x h = absurd (ran_refused cs (number_of e.fault) x h)
 
 ran_runs : (cs : List Call) (g x : Block) → Kept g → ran (Ok g) cs ≡ Ok x → Run g cs x
 ran_runs [] g x k h = let e : g ≡ x = cc in record { answers = []; run = ap closed (sym e); kept = subst Kept e k }

@@ -1,11 +1,11 @@
 -- Members of lists, and the first least of what is told.
-use Rattle.std.proofs.Common.{◌≡◌, ℕ, zero, suc, ◌<◌, ◌≤◌, Bool, true, false, cond, not, T, eqb, ◌⊎◌, List, [], ◌∷◌, ◌++◌, length, Some, None, Option, sym, refl, ap, subst, inl, inr, arith}
+use Rattle.std.proofs.Common.{◌≡◌, ℕ, zero, suc, ◌<◌, ◌≤◌, Bool, true, false, cond, not, T, eqb, ◌⊎◌, List, [], ◌∷◌, ◌++◌, length, Some, None, Option, sym, refl, ap, subst, inl, inr, arith, slice_get}
 use mathlib.Core.List.Memᴰ
 use mathlib.Core.List.{Memᴰ}
 use lib.Dec.{eqb_refl}
 use Rattle.std.specs.List.{AllByRecursion}
 use Rattle.paths.specs.Rows.{Rows, Before}
-use Rattle.paths.specs.Sheets.{Told, nth, least, first_least}
+use Rattle.paths.specs.Sheets.{Told, least, first_least}
 use Rattle.paths.proofs.RowLaws.{Laws, Fine, before_refl}
 
 abbrev pub In : {X : Type 0} → X → List X → Type 0
@@ -49,7 +49,7 @@ none_some {X} a e = subst F e tt
 
 -- ---- what is numbered i
 abbrev pub At : {X : Type 0} → List X → ℕ → X → Type 0
-At xs i x = nth xs i ≡ Some x
+At xs i x = slice_get xs i ≡ Some x
 
 pub at_below : {X : Type 0} (xs : List X) (i : ℕ) (x : X) → At xs i x → i < length xs
 at_below [] i x e = absurd (none_some x e)

@@ -4,18 +4,11 @@ use mathlib.Core.List.Memᴰ
 use Rattle.std.specs.List.{AllByRecursion}
 use Rattle.paths.specs.Rows.{Rows, Before}
 use Rattle.paths.specs.Sheets.{Line, enter, entered}
+use Rattle.paths.specs.Relations.{ByTag}
 use Rattle.paths.proofs.RowLaws.{Laws, Fine, before_refl}
 use Rattle.paths.proofs.Choosing.{Orders, Ascending, In, in_nil, by_cond, all_in, in_all}
 
-abbrev pub ByTag : {R : Type 0} → List (Line R) → Type 0
-ByTag [] = Unit {0}
-ByTag (l ∷ ls) = AllByRecursion (λ k. l.tag < k.tag) ls × ByTag ls
-
-module _ {R : Type 0} {m : Rows R} (laws : Laws m) where
-  -- arrivals that the order's laws are about
-  abbrev pub LinesFine : List (Line R) → Type 0
-  LinesFine ls = (x : Line R) → In x ls → Fine laws x.arrival
-
+module _ {R : Type 0} (m : Rows R) where
   -- nothing but c comes in
   enter_in : (c : Line R) (ls : List (Line R)) (x : Line R) → In x (enter m c ls) → (x ≡ c) ⊎ In x ls
   enter_in c [] x = λ i. Memᴰ.cases_cons i
@@ -38,13 +31,6 @@ module _ {R : Type 0} {m : Rows R} (laws : Laws m) where
       below : (x ≡ l) ⊎ In x (enter m c ls) → (In x (enter m c ls) → (x ≡ c) ⊎ In x ls) → (x ≡ c) ⊎ In x (l ∷ ls)
       below (inl e) f = inr (Memᴰ.head e)
       below (inr j) f = past (f j)
-
-  pub enter_fine : (c : Line R) (ls : List (Line R)) → Fine laws c.arrival → LinesFine ls → LinesFine (enter m c ls)
-  enter_fine c ls fc fine x i = go (enter_in c ls x i)
-    where
-      go : (x ≡ c) ⊎ In x ls → Fine laws x.arrival
-      go (inl e) = subst (λ (z : Line R). Fine laws z.arrival) (sym e) fc
-      go (inr j) = fine x j
 
   enter_above : (d : ℕ) (c : Line R) (ls : List (Line R)) → d < c.tag → AllByRecursion (λ k. d < k.tag) ls → AllByRecursion (λ k. d < k.tag) (enter m c ls)
   enter_above d c ls h all = in_all (λ k. d < k.tag) (enter m c ls) (λ x i. go x (enter_in c ls x i))
@@ -85,6 +71,18 @@ module _ {R : Type 0} {m : Rows R} (laws : Laws m) where
   pub entered_sorted : (cs ls : List (Line R)) → ByTag ls → ByTag (entered m cs ls)
   entered_sorted [] ls s = s
   entered_sorted (c ∷ cs) ls s = entered_sorted cs (enter m c ls) (enter_sorted c ls s)
+
+module _ {R : Type 0} {m : Rows R} (laws : Laws m) where
+  -- arrivals that the order's laws are about
+  abbrev pub LinesFine : List (Line R) → Type 0
+  LinesFine ls = (x : Line R) → In x ls → Fine laws x.arrival
+
+  pub enter_fine : (c : Line R) (ls : List (Line R)) → Fine laws c.arrival → LinesFine ls → LinesFine (enter m c ls)
+  enter_fine c ls fc fine x i = go (enter_in m c ls x i)
+    where
+      go : (x ≡ c) ⊎ In x ls → Fine laws x.arrival
+      go (inl e) = subst (λ (z : Line R). Fine laws z.arrival) (sym e) fc
+      go (inr j) = fine x j
 
 module _ {R : Type 0} {m : Rows R} (laws : Laws m) (First : Line R → Line R → Type 0) (orders : Orders First) where
   -- some line of ls has c's tag and is no earlier; if it is no later either, it wins
@@ -177,7 +175,7 @@ module _ {R : Type 0} {m : Rows R} (laws : Laws m) (First : Line R → Line R �
   pub entered_new : (cs ls : List (Line R)) → LinesFine laws cs → LinesFine laws ls → Ascending First cs → ((c l : Line R) → In c cs → In l ls → First l c) → (x : Line R) → In x cs → Covered x (entered m cs ls)
   entered_new [] ls fcs fls a f x i = in_nil x i
   entered_new (c ∷ cs) ls fcs fls a f x i =
-      go (Memᴰ.cases_cons i) (λ j. entered_new cs (enter m c ls) later fine a.1 (λ d l k z. next d k l (enter_in laws c ls l z)) x j)
+      go (Memᴰ.cases_cons i) (λ j. entered_new cs (enter m c ls) later fine a.1 (λ d l k z. next d k l (enter_in m c ls l z)) x j)
     where
       fc : Fine laws c.arrival
       fc = fcs c (Memᴰ.head refl)

@@ -42,11 +42,11 @@ ticks_within z h = let p = and_parts (le_z (negsuc 999999) z) (le_z z (pos 10000
 -- ticks that are there are the source's plus the trim, in range
 pub ticks_are : (n : ℕ) (trim : ℤ) (entry : Entry) (d : ℤ) → arc_ticks n trim entry ≡ Ok d → (x : ℤ) × (entry ≡ Ok x) × (d ≡ x +ℤ trim) × Within 1000000 d
 ticks_are n trim (Err f) d h = absurd (err_ok (faulty f) d h)
-ticks_are n trim (Ok x) d h = go (is_ticks (x +ℤ trim)) refl h
+ticks_are n trim (Ok x) d h = go (is_ticks (x +ℤ trim)) refl _ h
   where
-    go : (t : Bool) → is_ticks (x +ℤ trim) ≡ t → cond {A = Result ℤ Untimed} t (Ok (x +ℤ trim)) (Err (beyond n)) ≡ Ok d → (y : ℤ) × (◌≡◌ {A = Entry} (Ok x) (Ok y)) × (d ≡ y +ℤ trim) × Within 1000000 d
-    go true e q = let s = ok_is (x +ℤ trim) d q in (x, refl, sym s, subst (λ z. Within 1000000 z) s (ticks_within (x +ℤ trim) e))
-    go false e q = absurd (err_ok (beyond n) d q)
+    go : (t : Bool) → is_ticks (x +ℤ trim) ≡ t → (u : Untimed) → cond {A = Result ℤ Untimed} t (Ok (x +ℤ trim)) (Err u) ≡ Ok d → (y : ℤ) × (◌≡◌ {A = Entry} (Ok x) (Ok y)) × (d ≡ y +ℤ trim) × Within 1000000 d
+    go true e u q = let s = ok_is (x +ℤ trim) d q in (x, refl, sym s, subst (λ z. Within 1000000 z) s (ticks_within (x +ℤ trim) e))
+    go false e u q = absurd (err_ok u d q)
 
 module _ (order : WorkOrder) (means : ℕ → Entry) where
   -- a is the live arc of an index, numbered from n, with its ticks

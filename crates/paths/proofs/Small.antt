@@ -1,12 +1,11 @@
 -- What the proofs are given of a block, and that its arrivals and required times are near zero.
 use Rattle.std.proofs.Common.{◌≡◌, ℕ, suc, ◌-◌, ◌*◌, ◌^◌, ◌<◌, ◌≤◌, Some, arith}
-use lib.Bits.{bit_or, or_lt, and_le_l}
 use Rattle.paths.specs.Rows.{Rows}
 use Rattle.paths.specs.Tags.{set_count}
-use Rattle.paths.specs.Blocks.{Arc, RowBlock, Live, Rising, is_begin, begin_sets, pass, ByNumber}
+use Rattle.paths.specs.Blocks.{Arc, RowBlock, Live, Rising, pass, ByNumber}
 use Rattle.paths.specs.Times.{Reaches, starts, passed, Asked, ends, before}
 use Rattle.paths.specs.Sheets.{no_arc}
-use Rattle.paths.proofs.TagLaws.{tag_of_below}
+use Rattle.paths.proofs.Stretches.{pass_below}
 use Rattle.paths.proofs.RowLaws.{Laws, Near}
 
 pub record Given {R : Type 0} (m : Rows R) (b : RowBlock R) (n : ℕ) : Type 0 where
@@ -46,12 +45,6 @@ tame given = record {
 }
 
 -- ---- a tag has the 16 sets only
-pass_below : {R : Type 0} (b : RowBlock R) (s : ℕ) (e : Arc R) → s < 2 ^ set_count → pass b s e < 2 ^ set_count
-unfolding pass begin_sets
-pass_below b s e h =
-    let all = bit_or s (begin_sets b e.from) in
-    omega (arith, or_lt set_count s (begin_sets b e.from) h (tag_of_below set_count (λ i. is_begin b i e.from)), and_le_l all e.sets)
-
 pub reached_tag : {R : Type 0} {m : Rows R} {b : RowBlock R} (v s : ℕ) (x : R) → Reaches m b v s x → s < 2 ^ set_count
 reached_tag v s x (starts e) = omega arith
 reached_tag {b} v s x (passed {s = r} {x = z} e k l p) = pass_below b r e (reached_tag e.from r z k)

@@ -1,7 +1,7 @@
 -- A tag is the sets of which a stretch is under way, so a path is carried undropped exactly when it is open.
-use Rattle.std.proofs.Common.{◌≡◌, ℕ, ◌<◌, Bool, true, false, not, ◌&&◌, ◌||◌, T, ◌⊎◌, List, [], ◌∷◌, ◌++◌, sym, refl, ap, ◌∙◌, subst, inl, inr, append_assoc, T_not}
+use Rattle.std.proofs.Common.{◌≡◌, ℕ, ◌^◌, ◌<◌, Bool, true, false, not, ◌&&◌, ◌||◌, T, ◌⊎◌, List, [], ◌∷◌, ◌++◌, sym, refl, ap, ◌∙◌, subst, inl, inr, append_assoc, arith, T_not}
 use mathlib.Core.List.{nil≢cons, head-eq_of_cons-eq, tail-eq_of_cons-eq}
-use lib.Bits.{bit_or}
+use lib.Bits.{bit_or, or_lt, and_le_l}
 use Rattle.std.specs.List.{AllByRecursion}
 use Rattle.std.proofs.ByRecursion.{All-append}
 use Rattle.paths.specs.Tags.{set_count, has}
@@ -38,6 +38,13 @@ module _ {R : Type 0} (b : RowBlock R) where
   pass_is i s e h =
       has_and i (bit_or s (begin_sets b e.from)) e.sets
       ∙ ap (λ x. x && in_set i e) (has_or i s (begin_sets b e.from) ∙ ap (λ x. has s i || x) (has_tag_of set_count (λ k. is_begin b k e.from) i h))
+
+  -- a tag has the 16 sets only
+  pub pass_below : (s : ℕ) (e : Arc R) → s < 2 ^ set_count → pass b s e < 2 ^ set_count
+  unfolding pass begin_sets
+  pass_below s e h =
+      let all = bit_or s (begin_sets b e.from) in
+      omega (arith, or_lt set_count s (begin_sets b e.from) h (tag_of_below set_count (λ i. is_begin b i e.from)), and_le_l all e.sets)
 
   pass_from : (i s : ℕ) (e : Arc R) → i < set_count → T (has (pass b s e) i) → UnderWay i s e.from × T (in_set i e)
   pass_from i s e h p = both (has s i || is_begin b i e.from) (in_set i e) (subst T (pass_is i s e h) p)

@@ -1,7 +1,8 @@
 -- The theorems of all sound blocks.
 use Rattle.std.proofs.Common.{◌≡◌, ℕ, suc, ◌-◌, ◌*◌, ◌<◌, ◌≤◌, Some, None, Option, refl, ap, subst, arith}
 use Rattle.measure.specs.Rows.{Row, Bounded, negated}
-use Rattle.measure.specs.Bounds.{bounded_negated, summed_within}
+use Rattle.measure.specs.Bounds.{bounded_negated}
+use Rattle.measure.proofs.Bounds.{summed_within}
 use Rattle.paths.specs.Rows.{Rows, rows}
 use Rattle.paths.specs.Sheets.{Line, Told, Timed, arrivals, sheet, node_slack, row_of}
 use Rattle.paths.specs.Times.{NodeSlack}

@@ -1,9 +1,9 @@
 -- The path that is traced for a node is an open complete path through it, with the node's slack.
-use Rattle.std.proofs.Common.{◌≡◌, ℕ, zero, suc, ◌+◌, ◌<◌, ◌≤◌, Bool, true, false, T, eqb, ◌⊎◌, List, [], ◌∷◌, ◌++◌, length, Some, None, Option, sym, refl, ap, ◌∙◌, subst, ap₂, inl, inr, append_assoc, append-nil, arith, eqb→eq}
+use Rattle.std.proofs.Common.{◌≡◌, ℕ, zero, suc, ◌+◌, ◌<◌, ◌≤◌, Bool, true, false, T, eqb, ◌⊎◌, List, [], ◌∷◌, ◌++◌, length, Some, None, Option, sym, refl, ap, ◌∙◌, subst, ap₂, inl, inr, append_assoc, append-nil, arith, eqb→eq, slice_get}
 use mathlib.Core.List.Memᴰ
 use Rattle.paths.specs.Rows.{Rows, minus}
 use Rattle.paths.specs.Blocks.{Arc, RowBlock, Live, pass, passes}
-use Rattle.paths.specs.Sheets.{Line, Told, Timed, no_arc, no_line, nth, first_least, ended, asked_by, started, entered, node_slack, row_of, arrivals, into, timed, sheet}
+use Rattle.paths.specs.Sheets.{Line, Told, Timed, no_arc, no_line, first_least, ended, asked_by, started, entered, node_slack, row_of, arrivals, into, timed, sheet}
 use Rattle.paths.specs.Paths.{numbers}
 use Rattle.paths.specs.Traces.{back_step, backs, fore_step, required_at, fores, traced, trace}
 use Rattle.paths.specs.Relations.{Shows}
@@ -149,7 +149,7 @@ module _ {R : Type 0} (m : Rows R) (b : RowBlock R) (laws : Laws m) where
         go : BackLink n i t.line → Below → Goal
         go (inl w) f = (
           record { first = t.line.node; starts_at = t.line.arrival; arcs = []; starts = w.0; leads = refl; carries = sym w.1; is = sym (laws.unit t.line.arrival) },
-          back_stop (λ j ks. backs fuel (sheet m b n) j ks) es (nth (sheet m b n) i) t a w.2,
+          back_stop (λ j ks. backs fuel (sheet m b n) j ks) es (slice_get (sheet m b n) i) t a w.2,
         )
         go (inr w) f =
             let u = at_timed 0 (arrivals m b n) t.line.back_line w.line w.stands in
@@ -162,7 +162,7 @@ module _ {R : Type 0} (m : Rows R) (b : RowBlock R) (laws : Laws m) where
             (ap (λ (z : Line R). pass b z.tag w.arc) u.2 ∙ w.tag_is)
             (w.arrival_is ∙ ap (λ (z : Line R). m.plus z.arrival w.arc.row) (sym u.2)) in (
               r.0,
-              back_go (λ j ks. backs fuel (sheet m b n) j ks) es (nth (sheet m b n) i) t a (subst (λ x. x < no_arc) (sym w.number_is) (numbered w.arc w.live))
+              back_go (λ j ks. backs fuel (sheet m b n) j ks) es (slice_get (sheet m b n) i) t a (subst (λ x. x < no_arc) (sym w.number_is) (numbered w.arc w.live))
                   ∙ k.1
                   ∙ ap (λ x. numbers k.0.arcs ++ (x ∷ es)) w.number_is
                   ∙ sym (append_assoc (numbers k.0.arcs) (w.arc.number ∷ []) es)
@@ -263,7 +263,7 @@ module _ {R : Type 0} (m : Rows R) (b : RowBlock R) (laws : Laws m) where
     fores_right (suc fuel) i t y a r h =
         go (fore_link 0 (arrivals m b n) i t y a r) (λ j u z a' r' h'. fores_right fuel j u z a' r' h')
       where
-        required_is : required_at (nth (sheet m b n) i) ≡ Some y
+        required_is : required_at (slice_get (sheet m b n) i) ≡ Some y
         required_is = ap required_at a ∙ r
 
         Below : Type 0
@@ -273,7 +273,7 @@ module _ {R : Type 0} (m : Rows R) (b : RowBlock R) (laws : Laws m) where
         go : ForeLink 0 (sheet m b n) i t y → Below → (o : Onward m b t.line.node t.line.tag y.row) × (fores (suc fuel) (sheet m b n) i ≡ numbers o.arcs)
         go (inl w) f = (
           record { last = t.line.node; ends_at = y.row; arcs = []; tag = t.line.tag; ends = w.0; leads = refl; carries = refl; is = sym (minus_none laws y.row) },
-          fore_stop (λ j. fores fuel (sheet m b n) j) (required_at (nth (sheet m b n) i)) y required_is w.1,
+          fore_stop (λ j. fores fuel (sheet m b n) j) (required_at (slice_get (sheet m b n) i)) y required_is w.1,
         )
         go (inr w) f =
             let place_is : y.line ≡ w.place = omega (arith, w.place_is) in
@@ -281,7 +281,7 @@ module _ {R : Type 0} (m : Rows R) (b : RowBlock R) (laws : Laws m) where
             let o = onward_more laws b w.beyond.line.node t.line.node t.line.tag w.beyond.line.tag w.asks_for.row y.row k.0 w.arc w.live
             w.from_is w.may w.node_is w.tag_is w.row_is in (
               o.0,
-              fore_go (λ j. fores fuel (sheet m b n) j) (required_at (nth (sheet m b n) i)) y required_is (subst (λ x. x < no_arc) (sym w.number_is) (numbered w.arc w.live))
+              fore_go (λ j. fores fuel (sheet m b n) j) (required_at (slice_get (sheet m b n) i)) y required_is (subst (λ x. x < no_arc) (sym w.number_is) (numbered w.arc w.live))
                   ∙ ap₂ (λ x ks. x ∷ ks) w.number_is (ap (fores fuel (sheet m b n)) place_is ∙ k.1)
                   ∙ ap numbers (sym o.1),
             )

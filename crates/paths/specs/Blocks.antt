@@ -1,7 +1,7 @@
 -- A block in rows: its live arcs, start and end times, and the false sets of the arcs. Nodes are numbered in the order in which they are worked.
-use Rattle.std.specs.Prelude.{ℕ, ◌<◌, Bool, false, not, ◌&&◌, ◌||◌, List, [], ◌∷◌, Option, ◌==◌, bit_and, bit_or}
+use Rattle.std.specs.Prelude.{ℕ, ◌<◌, Bool, not, ◌&&◌, List, [], ◌∷◌, Option, ◌==◌, bit_and, bit_or}
 use mathlib.Core.List.{Memᴰ}
-use Rattle.std.specs.List.{AllByRecursion}
+use Rattle.std.specs.List.{AllByRecursion, list_any}
 use Rattle.paths.specs.Tags.{set_count, has, tag_of, apart}
 
 pub record Arc (R : Type 0) : Type 0 where
@@ -21,10 +21,6 @@ abbrev pub ByNumber : {R : Type 0} → List (Arc R) → Type 0
 ByNumber [] = Unit {0}
 ByNumber (e ∷ es) = AllByRecursion (λ k. e.number < k.number) es × ByNumber es
 
-abbrev pub any : {X : Type 0} → (X → Bool) → List X → Bool
-any test [] = false
-any test (x ∷ xs) = test x || any test xs
-
 module _ {R : Type 0} where
   abbrev pub Live : RowBlock R → Arc R → Type 0
   Live b e = Memᴰ e b.arcs
@@ -38,10 +34,10 @@ module _ {R : Type 0} where
 
   -- an arc of set i leaves v, or enters it
   abbrev pub leaves : RowBlock R → ℕ → ℕ → Bool
-  leaves b i v = any (λ e. in_set i e && e.from == v) b.arcs
+  leaves b i v = list_any (λ e. in_set i e && e.from == v) b.arcs
 
   abbrev pub enters : RowBlock R → ℕ → ℕ → Bool
-  enters b i v = any (λ e. in_set i e && e.to == v) b.arcs
+  enters b i v = list_any (λ e. in_set i e && e.to == v) b.arcs
 
   -- set i begins at v: an arc of it leaves v, and none enters; it ends at v: one enters, and none leaves
   abbrev pub is_begin : RowBlock R → ℕ → ℕ → Bool

@@ -1,12 +1,12 @@
 -- What is true of a sheet's lines, of a node's entry and of the path shown, for a block whose nodes are below n.
-use Rattle.std.specs.Prelude.{◌≡◌, ℕ, ◌<◌, ◌≤◌, T, ◌⊎◌, List, [], ◌∷◌, ◌++◌, Some, None, Option}
+use Rattle.std.specs.Prelude.{◌≡◌, ℕ, ◌<◌, ◌≤◌, T, ◌⊎◌, List, [], ◌∷◌, ◌++◌, Some, None, Option, slice_get}
 use mathlib.Core.List.{Memᴰ}
 use Rattle.std.specs.List.{AllByRecursion}
 use Rattle.paths.specs.Rows.{Rows, minus}
 use Rattle.paths.specs.Blocks.{Arc, RowBlock, Live, pass, passes}
 use Rattle.paths.specs.Paths.{numbers, Through, slack}
 use Rattle.paths.specs.Times.{Reaches, Asked, Arrival, Required, NodeSlack}
-use Rattle.paths.specs.Sheets.{Line, Told, Timed, no_arc, no_line, nth, lines, row_of}
+use Rattle.paths.specs.Sheets.{Line, Told, Timed, no_arc, no_line, lines, row_of}
 
 -- ---- the order of the lines: by node, then by tag
 abbrev pub Precedes : {R : Type 0} → Line R → Line R → Type 0
@@ -16,6 +16,11 @@ abbrev pub InOrder : {R : Type 0} → List (Line R) → Type 0
 InOrder [] = Unit {0}
 InOrder (l ∷ ls) = AllByRecursion (Precedes l) ls × InOrder ls
 
+-- those of one node: each has a lower tag than the lines after it
+abbrev pub ByTag : {R : Type 0} → List (Line R) → Type 0
+ByTag [] = Unit {0}
+ByTag (l ∷ ls) = AllByRecursion (λ k. l.tag < k.tag) ls × ByTag ls
+
 -- ---- ties
 -- of the links over arc a from line i and over arc c from line j, the first wins or is the second: no link (a start, an end) first, then the lowest arc, then the lowest line
 abbrev pub Wins : ℕ → ℕ → ℕ → ℕ → Type 0
@@ -24,13 +29,13 @@ Wins a i c j = (a ≡ no_arc) ⊎ (((a < c) × (c < no_arc)) ⊎ ((a ≡ c) × (
 -- the link over arc a from line i of ls brings the arrival x to v with tag s; the marks for none say that v's start does
 pub data Link {R : Type 0} (m : Rows R) (b : RowBlock R) (ls : List (Line R)) (v s : ℕ) (x : R) : ℕ → ℕ → Type 0 where
   by_start : b.start v ≡ Some x → s ≡ 0 → Link m b ls v s x no_arc no_line
-  by_arc : (e : Arc R) (i : ℕ) (k : Line R) → Live b e → nth ls i ≡ Some k → k.node ≡ e.from → e.to ≡ v → T (passes b k.tag e) → pass b k.tag e ≡ s
+  by_arc : (e : Arc R) (i : ℕ) (k : Line R) → Live b e → slice_get ls i ≡ Some k → k.node ≡ e.from → e.to ≡ v → T (passes b k.tag e) → pass b k.tag e ≡ s
       → m.plus k.arrival e.row ≡ x → Link m b ls v s x e.number i
 
 -- the link over arc a to line i of ts asks y of v at tag s; the marks for none say that v's end does
 pub data Ask {R : Type 0} (m : Rows R) (b : RowBlock R) (ts : List (Timed R)) (v s : ℕ) (y : R) : ℕ → ℕ → Type 0 where
   by_end : b.end v ≡ Some y → Ask m b ts v s y no_arc no_line
-  by_line : (e : Arc R) (i : ℕ) (t : Timed R) (z : Told R) → Live b e → e.from ≡ v → T (passes b s e) → nth ts i ≡ Some t → t.line.node ≡ e.to → t.line.tag ≡ pass b s e
+  by_line : (e : Arc R) (i : ℕ) (t : Timed R) (z : Told R) → Live b e → e.from ≡ v → T (passes b s e) → slice_get ts i ≡ Some t → t.line.node ≡ e.to → t.line.tag ≡ pass b s e
       → t.required ≡ Some z → minus m z.row e.row ≡ y → Ask m b ts v s y e.number i
 
 -- ---- the lines
@@ -68,7 +73,7 @@ ForeLinks {R} m b ts =
 pub record SlackLine {R : Type 0} (m : Rows R) (ts : List (Timed R)) (v : ℕ) (x : R) (i : ℕ) : Type 0 where
   pub line : Timed R
   pub required : Told R
-  pub stands : nth ts i ≡ Some line
+  pub stands : slice_get ts i ≡ Some line
   pub node_is : line.line.node ≡ v
   pub required_is : line.required ≡ Some required
   pub slack_is : minus m required.row line.line.arrival ≡ x

@@ -34,12 +34,6 @@ pub record Timed (R : Type 0) : Type 0 where
 abbrev pub lines : {R : Type 0} → List (Timed R) → List (Line R)
 lines ts = map (λ t. t.line) ts
 
--- what is numbered i in a list, if anything
-abbrev pub nth : {X : Type 0} → List X → ℕ → Option X
-nth [] i = None
-nth (x ∷ xs) zero = Some x
-nth (x ∷ xs) (suc i) = nth xs i
-
 -- ---- parts that need no block
 abbrev pub started : {R : Type 0} → ℕ → Option R → List (Line R)
 started v None = []

@@ -1,7 +1,7 @@
 -- The path that is shown for a node.
-use Rattle.std.specs.Prelude.{ℕ, zero, suc, true, false, List, [], ◌∷◌, ◌++◌, length, Some, None, Option, ◌==◌}
+use Rattle.std.specs.Prelude.{ℕ, zero, suc, true, false, List, [], ◌∷◌, ◌++◌, length, Some, None, Option, ◌==◌, slice_get}
 use Rattle.paths.specs.Rows.{Rows}
-use Rattle.paths.specs.Sheets.{Told, Timed, no_arc, nth, node_slack}
+use Rattle.paths.specs.Sheets.{Told, Timed, no_arc, node_slack}
 
 module _ {R : Type 0} where
   -- the arcs that the back links from line i lead over, in front of es, at most fuel of them
@@ -11,7 +11,7 @@ module _ {R : Type 0} where
 
   abbrev pub backs : ℕ → List (Timed R) → ℕ → List ℕ → List ℕ
   backs zero ts i es = es
-  backs (suc fuel) ts i es = back_step (λ j ks. backs fuel ts j ks) es (nth ts i)
+  backs (suc fuel) ts i es = back_step (λ j ks. backs fuel ts j ks) es (slice_get ts i)
 
   -- and so for the fore links
   abbrev pub fore_step : (ℕ → List ℕ) → Option (Told R) → List ℕ
@@ -24,7 +24,7 @@ module _ {R : Type 0} where
 
   abbrev pub fores : ℕ → List (Timed R) → ℕ → List ℕ
   fores zero ts i = []
-  fores (suc fuel) ts i = fore_step (λ j. fores fuel ts j) (required_at (nth ts i))
+  fores (suc fuel) ts i = fore_step (λ j. fores fuel ts j) (required_at (slice_get ts i))
 
   -- the arcs of the path that is shown for v, where v has a slack
   abbrev pub traced : List (Timed R) → Option (Told R) → Option (List ℕ)

@@ -10,3 +10,4 @@ pub mod Reading
 pub mod Loading
 pub mod Listing
 pub mod Files
+pub mod Words

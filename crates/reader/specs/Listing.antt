@@ -1,5 +1,5 @@
 -- A file's records by themselves. Assumes nothing.
-use Rattle.std.specs.Prelude.{◌≡◌, ℕ, ◌<◌, length, Some, None, Ok, Err, vec_items, Option, Result}
+use Rattle.std.specs.Prelude.{◌≡◌, ℕ, ◌+◌, ◌<◌, ◌++◌, length, take, Some, None, Ok, Err, vec_items, vec_len, vec_capacity, Option, Result}
 use Rattle.reader.specs.declared.faults.FileRefusal.{FileRefusal}
 use Rattle.std.specs.Global.{Vec}
 use Rattle.reader.specs.declared.records.Record.{Record}
@@ -15,6 +15,19 @@ count_by (Some e) n = Err e
 -- how many value lines there are
 abbrev pub counted : Scan → Result ℕ FileRefusal
 counted s = count_by s.ending (length s.records)
+
+-- a good file's records are put behind those of the vector v, which is w after it, or v is left as it was: the refusal is
+-- the file's own, and want of memory comes only where v has no room for the records
+abbrev pub ListsInto : Scan → Vec Record → Result (Unit {0}) ListFault → Vec Record → Type 0
+ListsInto s v (Ok _) w = (s.ending ≡ None) × (vec_items w ≡ vec_items v ++ s.records)
+ListsInto s v (Err (File e)) w = (s.ending ≡ Some e) × (vec_items w ≡ vec_items v)
+ListsInto s v (Err Memory) w = (vec_capacity v < vec_len v + length s.records) × (vec_items w ≡ vec_items v)
+
+-- the same, where a refusal may leave some of the file's records behind those of v
+abbrev pub Appends : Scan → Vec Record → Result (Unit {0}) ListFault → Vec Record → Type 0
+Appends s v (Ok _) w = (s.ending ≡ None) × (vec_items w ≡ vec_items v ++ s.records)
+Appends s v (Err (File e)) w = (s.ending ≡ Some e) × (take (vec_len v) (vec_items w) ≡ vec_items v)
+Appends s v (Err Memory) w = (vec_capacity v < vec_len v + length s.records) × (take (vec_len v) (vec_items w) ≡ vec_items v)
 
 -- the records of a good file, in order; a refusal is the file's own; want of memory comes only where there is a record to keep
 abbrev pub Lists : Scan → Result (Vec Record) ListFault → Type 0

@@ -1,6 +1,7 @@
 // Why a file is refused, and in which line.
-ghost use Rattle.std.specs.Prelude.{◌≡◌};
+ghost use Rattle.std.specs.Prelude.{◌≡◌, Some};
 ghost use Rattle.reader.specs.Faults.{number_of};
+ghost use Rattle.reader.specs.Words.{fault_words, refusal_words};
 
 use std::error::Error;
 use std::fmt;
@@ -43,6 +44,8 @@ impl FileFault {
 
 // Whoever takes the records may use any number of the table of refusals.
 impl fmt::Display for FileFault {
+    ghost output = { λ fault. Some (fault_words fault) };
+
     fn fmt<W: fmt::Write>(&self, f: &mut fmt::Formatter<W>) -> fmt::Result {
         f.write_str(match *self {
             FileFault::NoBytes => "the file has no bytes",
@@ -77,6 +80,8 @@ pub struct FileRefusal {
 }
 
 impl fmt::Display for FileRefusal {
+    ghost output = { λ refusal. Some (refusal_words refusal) };
+
     fn fmt<W: fmt::Write>(&self, f: &mut fmt::Formatter<W>) -> fmt::Result {
         let number = self.fault.number();
         let FileRefusal { fault, line } = *self;

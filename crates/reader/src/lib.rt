@@ -17,6 +17,6 @@ mod values;
 pub use faults::{FileFault, FileRefusal};
 pub use laws::format_laws;
 pub use lines::LIMIT;
-pub use listing::{ListFault, count, list};
+pub use listing::{ListFault, count, list, list_into};
 pub use loading::{Sink, load, run};
 pub use records::{Kind, Record, Side, UnknownKind, UnknownSide};

@@ -1,8 +1,9 @@
 // A file's records by themselves: how many there are, and which.
-ghost use Rattle.std.specs.Prelude.{◌≡◌};
+ghost use Rattle.std.specs.Prelude.{◌≡◌, Some};
 ghost use Rattle.reader.specs.declared.listing.ListFault.TheVariants.{File, Memory};
 ghost use Rattle.reader.specs.Format.{scan};
-ghost use Rattle.reader.specs.Listing.{counted, Lists};
+ghost use Rattle.reader.specs.Listing.{counted, Appends, Lists, ListsInto};
+ghost use Rattle.reader.specs.Words.{list_words};
 
 use crate::faults::FileRefusal;
 use crate::reading::Reader;
@@ -32,6 +33,8 @@ pub enum ListFault {
 }
 
 impl fmt::Display for ListFault {
+    ghost output = { λ fault. Some (list_words fault) };
+
     fn fmt<W: fmt::Write>(&self, f: &mut fmt::Formatter<W>) -> fmt::Result {
         match *self {
             ListFault::File(fault) => write!(f, "{fault}"),
@@ -58,14 +61,34 @@ impl<T: Drop> From<AllocFailed<T>> for ListFault {
     }
 }
 
+// Puts a file's records behind those of a vector, up to the first refusal.
+fn append(kind: Kind, bytes: &[u8], records: &mut Vec<Record>) -> Result<(), ListFault>
+    ensures { Appends (scan kind bytes.now) records.old result records.new }
+{
+    let mut reader = Reader::open(kind, bytes)?;
+    while let Some(record) = reader.next()? {
+        records.push(record)?;
+    }
+    Ok(())
+}
+
+// Puts a good file's records behind those of a vector, or leaves these as they were.
+pub fn list_into(kind: Kind, bytes: &[u8], records: &mut Vec<Record>) -> Result<(), ListFault>
+    ensures { ListsInto (scan kind bytes.now) records.old result records.new }
+{
+    let before = records.len();
+    let done = append(kind, bytes, records);
+    if done.is_err() {
+        records.truncate(before);
+    }
+    done
+}
+
 // A good file's records, in order.
 pub fn list(heap: Global, kind: Kind, bytes: &[u8]) -> Result<Vec<Record>, ListFault>
     ensures { Lists (scan kind bytes.now) result }
 {
-    let mut reader = Reader::open(kind, bytes)?;
     let mut records = Vec::new(heap);
-    while let Some(record) = reader.next()? {
-        records.push(record)?;
-    }
+    list_into(kind, bytes, &mut records)?;
     Ok(records)
 }

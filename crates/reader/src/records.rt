@@ -1,7 +1,8 @@
 // What a file says: its kind, and the records of its value lines.
-ghost use Rattle.std.specs.Prelude.{◌≡◌};
+ghost use Rattle.std.specs.Prelude.{◌≡◌, Some, codes, IfErr};
 ghost use Rattle.std.specs.Result.{result_ok};
 ghost use Rattle.reader.specs.Records.{name_of, named, side_of};
+ghost use Rattle.reader.specs.Words.{side_words};
 
 use std::error::Error;
 use std::fmt;
@@ -35,6 +36,8 @@ impl Kind {
 pub struct UnknownKind;
 
 impl fmt::Display for UnknownKind {
+    ghost output = { λ _. Some (codes "no kind of file has this name") };
+
     fn fmt<W: fmt::Write>(&self, f: &mut fmt::Formatter<W>) -> fmt::Result {
         write!(f, "no kind of file has this name")
     }
@@ -71,6 +74,8 @@ pub enum Side {
 pub struct UnknownSide(pub char);
 
 impl fmt::Display for UnknownSide {
+    ghost output = { λ unknown. Some (side_words unknown.0) };
+
     fn fmt<W: fmt::Write>(&self, f: &mut fmt::Formatter<W>) -> fmt::Result {
         let letter = self.0;
         write!(f, "no end of a path has the letter {letter}")
@@ -83,7 +88,8 @@ impl Error for UnknownSide {}
 impl TryFrom<char> for Side {
     type Error = UnknownSide;
 
-    ghost try_from_gives = { λ letter r. result_ok r ≡ side_of letter };
+    // The refusal carries the letter.
+    ghost try_from_gives = { λ letter r. (result_ok r ≡ side_of letter) × IfErr r (λ e. e.0 ≡ letter) };
 
     fn try_from(letter: char) -> Result<Side, UnknownSide> {
         match letter {

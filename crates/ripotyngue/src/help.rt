@@ -47,8 +47,10 @@ line end. N is a node, A an arc, S a set, T a number of ticks. A row is its numb
   trial A T                          ok; then the arc has the trim T until endtrial, and only time,
                                      sheet, slacks and trace are served
   endtrial                           ok, after a refused trial too
-A call that is refused answers refused NUMBER and changes nothing; a number that is too large is out
-of range, number 6. What is no command answers error: and what is wrong. Blank lines and lines that
+A call that is refused answers refused NUMBER and changes nothing, but for a refused time, which leaves
+blank tables, and a refused trial, which is open until endtrial all the same. A number above 2147483646
+or below -2147483646 is out of range, number 6, as is a margin below 0 or above 65535. What is no
+command, and a file that cannot be read, answers error: and what is wrong. Blank lines and lines that
 begin with # are passed over.
 
 A file is a line of column names in any order, value lines with their fields in that order, and the

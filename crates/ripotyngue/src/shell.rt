@@ -8,6 +8,7 @@ use crate::command::{Command, NoCommand, parse};
 use crate::delays::Delays;
 use crate::input::read_file;
 use crate::limits::{LONGEST_PATH, MOST_LINES};
+use crate::words::DOES_NOT_FIT;
 use delay::load_delays;
 use graph::{GraphFile, Refusal, TimingGraph};
 use ledger::make;
@@ -130,11 +131,11 @@ fn set_margin(rt: &HostRuntime, delays: &mut Delays, number: i32) -> io::Result<
 
 // Sets the length of the line tables. Tables that are too long are one line too long.
 fn set_length(rt: &HostRuntime, held: &mut Held, lines: i32) -> io::Result<Option<Stop>> {
-    let Ok(length) = usize::try_from(lines) else {
+    if lines < 0 || lines == DOES_NOT_FIT {
         answer_out_of_range(rt)?;
         return Ok(None);
-    };
-    held.length = length.min(MOST_LINES + 1);
+    }
+    held.length = (lines as usize).min(MOST_LINES + 1);
     answer_ok(rt)?;
     Ok(Some(Stop::NewTables))
 }

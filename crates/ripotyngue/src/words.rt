@@ -29,7 +29,10 @@ pub fn first_word(text: &[u8]) -> (&[u8], &[u8]) {
     }
 }
 
-// The number of decimal digits. One that does not fit becomes the largest that does.
+// What a number that does not fit becomes. It is out of every range.
+pub const DOES_NOT_FIT: i32 = i32::MAX;
+
+// The number of decimal digits.
 fn magnitude(digits: &[u8]) -> Option<i32> {
     if digits.is_empty() {
         return None;

@@ -13,10 +13,6 @@ use Rattle.sheet.specs.Trails.{Leads, ends, over, broken, link_of, back_link, fo
 abbrev pub ahead : ℕ → Option ℕ → Option ℕ
 ahead n o = on_some (λ k. n + k) o
 
-pub ahead_none : (o : Option ℕ) → ahead 0 o ≡ o
-ahead_none None = refl
-ahead_none (Some k) = ap Some (let e : 0 + k ≡ k = omega arith in e)
-
 -- the line that a link leads to
 abbrev pub line_in : Leads → ℕ
 line_in (Ok None) = 0
@@ -89,12 +85,9 @@ module _ (way : Way) (ls : List Line) where
   pub count_more : (i a j n : ℕ) → over a j ≡ link_at way ls i → ahead n (on_some length (walked way ls i)) ≡ ahead (n + 1) (on_some length (walked way ls j))
   count_more i a j n e = ap (λ o. ahead n (on_some length o)) (walked_on i a j e) ∙ one_more n a (walked way ls j)
 
-  -- where there is no link more, nothing is walked, and where one cannot be followed, there is no walk
+  -- where there is no link more, nothing is walked
   pub walked_ends : (i : ℕ) → ends ≡ link_at way ls i → walked way ls i ≡ Some []
   walked_ends i e = ap (walk_step (link_at way ls) (λ x. walk (link_at way ls) (lines_left way ls i) x)) (sym e)
-
-  pub walked_broken : (i : ℕ) → broken ≡ link_at way ls i → walked way ls i ≡ None
-  walked_broken i e = ap (walk_step (link_at way ls) (λ x. walk (link_at way ls) (lines_left way ls i) x)) (sym e)
 
 -- one arc more is written at the place k
 module _ (way : Way) (ls : List Line) (i a j k : ℕ) (list : List ℕ) (on : over a j ≡ link_at way ls i) (below : k < length list) where

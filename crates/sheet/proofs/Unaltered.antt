@@ -1,12 +1,12 @@
 -- In the tables of a written sheet, the links lead where the sheet's links do.
-use Rattle.std.proofs.Common.{◌≡◌, ℕ, zero, suc, ◌+◌, ◌<◌, ◌≤◌, Bool, true, cond, ◌&&◌, eqb, ltb, List, [], ◌∷◌, ◌++◌, map, length, get_or, reverse, Some, None, Option, sym, refl, ap, ◌∙◌, subst, ap₂, inl, inr, append_assoc, arith}
+use Rattle.std.proofs.Common.{◌≡◌, ℕ, zero, suc, ◌+◌, ◌<◌, ◌≤◌, Bool, true, cond, ◌&&◌, eqb, ltb, List, [], ◌∷◌, ◌++◌, map, length, get_or, reverse, Some, None, Option, sym, refl, ap, ◌∙◌, subst, ap₂, inl, inr, append_assoc, arith, slice_get}
 use Rattle.std.proofs.lemmas.List.{length-append, length-map}
 use Rattle.std.proofs.lemmas.Bool.{lt-ltb, eq-eqb, ne_eqb, and_from}
 use Rattle.measure.specs.Rows.{on_some}
 use Rattle.paths.specs.Rows.{Rows}
 use Rattle.paths.specs.Blocks.{Arc, RowBlock, Live}
 use Rattle.paths.specs.Sheets as sheets
-use Rattle.paths.specs.Sheets.{Told, Timed, no_arc, nth, arrivals, timed, sheet}
+use Rattle.paths.specs.Sheets.{Told, Timed, no_arc, arrivals, timed, sheet}
 use Rattle.paths.specs.Traces.{backs, required_at, fores}
 use Rattle.paths.proofs.RowLaws.{Laws}
 use Rattle.paths.proofs.Choosing.{At, at_below, some_is, none_some}
@@ -87,7 +87,7 @@ module _ {R : Type 0} (m : Rows R) (b : RowBlock R) (laws : Laws m) (n : ℕ) (n
       go (inl w) f = (
         [],
         back_end table i (link ∙ link_ends t.line.back_arc t.line.back_line (ltb t.line.back_line i) w.2 w.3),
-        λ es. back_stop (λ j ks. backs fuel (sheet m b n) j ks) es (nth (sheet m b n) i) t a w.2,
+        λ es. back_stop (λ j ks. backs fuel (sheet m b n) j ks) es (slice_get (sheet m b n) i) t a w.2,
       )
       go (inr w) f =
           let arc = t.line.back_arc in
@@ -99,7 +99,7 @@ module _ {R : Type 0} (m : Rows R) (b : RowBlock R) (laws : Laws m) (n : ℕ) (n
             k.0 ++ (arc ∷ []),
             back_on table i arc line to ∙ ap (on_some (λ es. es ++ (arc ∷ []))) k.1,
             λ es.
-                back_go (λ j ks. backs fuel (sheet m b n) j ks) es (nth (sheet m b n) i) t a small
+                back_go (λ j ks. backs fuel (sheet m b n) j ks) es (slice_get (sheet m b n) i) t a small
                 ∙ k.2 (arc ∷ es)
                 ∙ sym (append_assoc k.0 (arc ∷ []) es),
           )
@@ -114,7 +114,7 @@ module _ {R : Type 0} (m : Rows R) (b : RowBlock R) (laws : Laws m) (n : ℕ) (n
       link : fore_link table i ≡ link_of y.arc y.line (ltb i y.line)
       link = fore_at (sheet m b n) rest i t y a r
 
-      required_is : required_at (nth (sheet m b n) i) ≡ Some y
+      required_is : required_at (slice_get (sheet m b n) i) ≡ Some y
       required_is = ap required_at a ∙ r
 
       Below : Type 0
@@ -124,7 +124,7 @@ module _ {R : Type 0} (m : Rows R) (b : RowBlock R) (laws : Laws m) (n : ℕ) (n
       go : ForeLink m b laws 0 (sheet m b n) i t y → Below → fore_arcs table i ≡ Some (fores (suc fuel) (sheet m b n) i)
       go (inl w) f =
           fore_end table i (link ∙ link_ends y.arc y.line (ltb i y.line) w.1 w.2)
-          ∙ ap Some (sym (fore_stop (λ j. fores fuel (sheet m b n) j) (required_at (nth (sheet m b n) i)) y required_is w.1))
+          ∙ ap Some (sym (fore_stop (λ j. fores fuel (sheet m b n) j) (required_at (slice_get (sheet m b n) i)) y required_is w.1))
       go (inr w) f =
           let place_is : y.line ≡ w.place = omega (arith, w.place_is) in
           let small : y.arc < no_arc = subst (λ x. x < no_arc) (sym w.number_is) (numbered w.arc w.live) in
@@ -135,4 +135,4 @@ module _ {R : Type 0} (m : Rows R) (b : RowBlock R) (laws : Laws m) (n : ℕ) (n
           ∙ ap (λ j. on_some (λ es. y.arc ∷ es) (fore_arcs table j)) place_is
           ∙ ap (on_some (λ es. y.arc ∷ es)) k
           ∙ ap (λ j. Some (y.arc ∷ fores fuel (sheet m b n) j)) (sym place_is)
-          ∙ ap Some (sym (fore_go (λ j. fores fuel (sheet m b n) j) (required_at (nth (sheet m b n) i)) y required_is small))
+          ∙ ap Some (sym (fore_go (λ j. fores fuel (sheet m b n) j) (required_at (slice_get (sheet m b n) i)) y required_is small))

@@ -1,5 +1,5 @@
 -- What a trace answers, and the list that it leaves, on any tables.
-use Rattle.std.specs.Prelude.{ℕ, ◌-◌, cond, List, ◌++◌, length, replicate, ℤ, Some, None, Ok, Err, Option, Result, nat_le, slice_index_or, unsigned_abs}
+use Rattle.std.specs.Prelude.{ℕ, ◌-◌, cond, List, ◌++◌, length, replicate, ℤ, Some, None, Ok, Err, Option, Result, nat_le, slice_index_or, unsigned_abs, codes, decimal}
 use Rattle.graph.specs.Ranges.{is_node}
 use Rattle.paths.specs.Sheets.{no_arc}
 use Rattle.sheet.specs.declared.line.Line.{Line}
@@ -16,6 +16,16 @@ refusal_number WrongLength = 14
 refusal_number OutOfRange = 6
 refusal_number BrokenLink = 16
 refusal_number ShortList = 17
+
+-- the words of each, and what it is shown by
+abbrev pub refusal_cause : TraceRefusal → List ℕ
+refusal_cause WrongLength = codes "a table has the wrong length"
+refusal_cause OutOfRange = codes "there is no such node"
+refusal_cause BrokenLink = codes "a link of the sheet cannot be followed"
+refusal_cause ShortList = codes "the list for the arcs is too short"
+
+abbrev pub refusal_words : TraceRefusal → List ℕ
+refusal_words r = codes "number " ++ decimal (refusal_number r) ++ codes ": " ++ refusal_cause r
 
 -- the count of arcs, or nothing, or the number of a refusal; and the list after it
 pub record TraceOutcome : Type 0 where

@@ -1,6 +1,6 @@
 // Why a trace is refused.
-ghost use Rattle.std.specs.Prelude.{◌≡◌};
-ghost use Rattle.sheet.specs.Traces.{refusal_number};
+ghost use Rattle.std.specs.Prelude.{◌≡◌, Some};
+ghost use Rattle.sheet.specs.Traces.{refusal_number, refusal_cause, refusal_words};
 
 use std::fmt;
 
@@ -27,17 +27,25 @@ impl TraceRefusal {
             TraceRefusal::ShortList => 17,
         }
     }
-}
 
-impl fmt::Display for TraceRefusal {
-    fn fmt<W: fmt::Write>(&self, f: &mut fmt::Formatter<W>) -> fmt::Result {
-        let number = self.number();
-        let words = match self {
+    fn words(self) -> &'static str
+        ensures { result.now ≡ refusal_cause self }
+    {
+        match self {
             TraceRefusal::WrongLength => "a table has the wrong length",
             TraceRefusal::OutOfRange => "there is no such node",
             TraceRefusal::BrokenLink => "a link of the sheet cannot be followed",
             TraceRefusal::ShortList => "the list for the arcs is too short",
-        };
+        }
+    }
+}
+
+impl fmt::Display for TraceRefusal {
+    ghost output = { λ refusal. Some (refusal_words refusal) };
+
+    fn fmt<W: fmt::Write>(&self, f: &mut fmt::Formatter<W>) -> fmt::Result {
+        let number = self.number();
+        let words = self.words();
         write!(f, "number {number}: {words}")
     }
 }

@@ -10,6 +10,8 @@ ghost use Rattle.sheet.specs.Tables.{tables_of};
 ghost use Rattle.timing.specs.Measured.{measured};
 ghost use Rattle.timing.specs.Refusals.{refused_time};
 ghost use Rattle.timing.specs.Times.{time_outcome};
+ghost use Rattle.timing.specs.Terms.{terms_of};
+ghost use Rattle.timing.specs.Agreement.{TimingAgrees};
 
 use delay::Source;
 use graph::TimingGraph;
@@ -39,6 +41,7 @@ fn time_lent<M: Measure, S: Source>(
     slacks: &mut [M],
 ) -> Result<usize, TimeRefusal>
     ensures answer { result_map_both (λ n. n) refused_time result ≡ (time_outcome (measured M.Measure) (tables_of M.Measure.row lines.old arrivals.old required.old nodes.old slacks.old) (row_block by_node M.Measure.row_of_time M.Measure.row_of_arc (block_of graph.now) (S.Source.means source.old))).answer }
+    ensures agree { TimingAgrees (terms_of M.Measure (S.Source.means source.old)) (block_of graph.now) (tables_of M.Measure.row lines.old arrivals.old required.old nodes.old slacks.old) (result_map_both (λ n. n) refused_time result) (tables_of M.Measure.row lines.new arrivals.new required.new nodes.new slacks.new) }
     ensures tables { tables_of M.Measure.row lines.new arrivals.new required.new nodes.new slacks.new ≡ (time_outcome (measured M.Measure) (tables_of M.Measure.row lines.old arrivals.old required.old nodes.old slacks.old) (row_block by_node M.Measure.row_of_time M.Measure.row_of_arc (block_of graph.now) (S.Source.means source.old))).tables }
     ensures same { S.Source.means source.new ≡ S.Source.means source.old }
     ensures level { S.Source.depth source.new ≡ S.Source.depth source.old }
@@ -98,6 +101,7 @@ impl<M: Measure> Tables<M> {
         source: &mut S,
     ) -> Result<usize, TimeRefusal>
         ensures answer { result_map_both (λ n. n) refused_time result ≡ (time_outcome (measured M.Measure) (sheet_of M.Measure.row self.old) (row_block by_node M.Measure.row_of_time M.Measure.row_of_arc (block_of graph.now) (S.Source.means source.old))).answer }
+        ensures agree { TimingAgrees (terms_of M.Measure (S.Source.means source.old)) (block_of graph.now) (sheet_of M.Measure.row self.old) (result_map_both (λ n. n) refused_time result) (sheet_of M.Measure.row self.new) }
         ensures tables { sheet_of M.Measure.row self.new ≡ (time_outcome (measured M.Measure) (sheet_of M.Measure.row self.old) (row_block by_node M.Measure.row_of_time M.Measure.row_of_arc (block_of graph.now) (S.Source.means source.old))).tables }
         ensures same { S.Source.means source.new ≡ S.Source.means source.old }
         ensures level { S.Source.depth source.new ≡ S.Source.depth source.old }

@@ -22,10 +22,14 @@ use Rattle.timing.specs.declared.crossing.Crossing.{Crossing}
 use Rattle.timing.specs.Crossings.{crossing_tag}
 use Rattle.timing.specs.WithRows.{arc_with, arcs_with}
 use Rattle.timing.specs.Bringing.{crossing_of}
-use Rattle.timing.specs.Requiring.{Mark, mark, as_list, ask_of, asked_of, asked_through, asked_at}
+use Rattle.timing.specs.Requiring.{Mark, as_list, ask_of, asked_of, asked_through, asked_at}
 use Rattle.timing.specs.RequiredFrom.{FirstsAre}
 use Rattle.timing.proofs.Blocks.{Listed, all_listed, begins_same, ends_same}
 use Rattle.timing.proofs.Arriving.{lines_at, own_nodes, later, arrivals_grow, first_next, joined_same}
+
+-- what is asked of a line of a sheet, and its tag
+abbrev pub mark : {R : Type 0} → sheets.Timed R → Mark R
+mark t = record { tag = t.line.tag; required = t.required }
 
 -- ---- lists
 order_behind : {R : Type 0} (xs ys : List (sheets.Line R)) → InOrder (xs ++ ys) → InOrder ys

@@ -1,7 +1,7 @@
 -- What the tables stand for, in the model's words.
 use Rattle.std.proofs.Common.{◌≡◌, ℕ, zero, suc, ◌+◌, ◌*◌, ◌<◌, Bool, true, false, cond, not, ◌&&◌, ◌||◌, eqb, List, [], ◌∷◌, ◌++◌, get_or, Some, None, Option, sym, refl, ap, ◌∙◌, ap₂, arith}
 use lib.Bits.{bit_and, bit_or}
-use Rattle.std.specs.List.{AllByRecursion, flat_map}
+use Rattle.std.specs.List.{AllByRecursion, flat_map, list_any}
 use Rattle.std.proofs.lemmas.Bool.{eq-eqb, eqb-true}
 use Rattle.graph.specs.declared.parts.LiveArc.{LiveArc}
 use Rattle.graph.specs.declared.parts.ArcEnd.{ArcEnd}
@@ -9,7 +9,7 @@ use Rattle.graph.specs.declared.parts.ArcEnd.TheVariants.{Tail, Head}
 use Rattle.graph.specs.Index.{node_at, numbers_at}
 use Rattle.paths.specs.Rows.{Rows}
 use Rattle.paths.specs.Tags.{set_count, has, tag_of, apart}
-use Rattle.paths.specs.Blocks.{Arc, RowBlock, any, in_set, is_begin, is_end, begin_sets, end_sets, pass, passes}
+use Rattle.paths.specs.Blocks.{Arc, RowBlock, in_set, is_begin, is_end, begin_sets, end_sets, pass, passes}
 use Rattle.paths.specs.Sheets.{Line, over, into, sent}
 use Rattle.timing.specs.declared.crossing.Crossing.{Crossing}
 use Rattle.timing.specs.Crossings.{crossed, crossing_line}
@@ -24,12 +24,12 @@ tag_of_same (suc n) f g h =
 
 -- ---- the sets at a node do not depend on the rows
 module _ {R : Type 0} (none : R) (rows : List R) (i v : ℕ) where
-  pub leaves_with : (k : ℕ) (es : List (Option LiveArc)) → any (λ (a : Arc R). in_set i a && eqb a.from v) (arcs_with none rows k es) ≡ any (at_node Tail v i) es
+  pub leaves_with : (k : ℕ) (es : List (Option LiveArc)) → list_any (λ (a : Arc R). in_set i a && eqb a.from v) (arcs_with none rows k es) ≡ list_any (at_node Tail v i) es
   leaves_with k [] = refl
   leaves_with k (None ∷ es) = leaves_with (suc k) es
   leaves_with k (Some e ∷ es) = ap (λ t. (has e.sets i && eqb e.from v) || t) (leaves_with (suc k) es)
 
-  pub enters_with : (k : ℕ) (es : List (Option LiveArc)) → any (λ (a : Arc R). in_set i a && eqb a.to v) (arcs_with none rows k es) ≡ any (at_node Head v i) es
+  pub enters_with : (k : ℕ) (es : List (Option LiveArc)) → list_any (λ (a : Arc R). in_set i a && eqb a.to v) (arcs_with none rows k es) ≡ list_any (at_node Head v i) es
   enters_with k [] = refl
   enters_with k (None ∷ es) = enters_with (suc k) es
   enters_with k (Some e ∷ es) = ap (λ t. (has e.sets i && eqb e.to v) || t) (enters_with (suc k) es)
@@ -39,16 +39,16 @@ unfolding begin_sets
 begins_same {R} none rows b es v e =
     tag_of_same set_count (λ i. is_begin b i v) (λ i. is_begin (bare es) i v)
     (λ i _. ap₂ (λ p q. p && not q)
-    (ap (any (λ (a : Arc R). in_set i a && eqb a.from v)) e ∙ leaves_with none rows i v 0 es ∙ sym (leaves_with tt [] i v 0 es))
-    (ap (any (λ (a : Arc R). in_set i a && eqb a.to v)) e ∙ enters_with none rows i v 0 es ∙ sym (enters_with tt [] i v 0 es)))
+    (ap (list_any (λ (a : Arc R). in_set i a && eqb a.from v)) e ∙ leaves_with none rows i v 0 es ∙ sym (leaves_with tt [] i v 0 es))
+    (ap (list_any (λ (a : Arc R). in_set i a && eqb a.to v)) e ∙ enters_with none rows i v 0 es ∙ sym (enters_with tt [] i v 0 es)))
 
 pub ends_same : {R : Type 0} (none : R) (rows : List R) (b : RowBlock R) (es : List (Option LiveArc)) (v : ℕ) → b.arcs ≡ arcs_with none rows 0 es → end_sets b v ≡ end_sets (bare es) v
 unfolding end_sets
 ends_same {R} none rows b es v e =
     tag_of_same set_count (λ i. is_end b i v) (λ i. is_end (bare es) i v)
     (λ i _. ap₂ (λ p q. q && not p)
-    (ap (any (λ (a : Arc R). in_set i a && eqb a.from v)) e ∙ leaves_with none rows i v 0 es ∙ sym (leaves_with tt [] i v 0 es))
-    (ap (any (λ (a : Arc R). in_set i a && eqb a.to v)) e ∙ enters_with none rows i v 0 es ∙ sym (enters_with tt [] i v 0 es)))
+    (ap (list_any (λ (a : Arc R). in_set i a && eqb a.from v)) e ∙ leaves_with none rows i v 0 es ∙ sym (leaves_with tt [] i v 0 es))
+    (ap (list_any (λ (a : Arc R). in_set i a && eqb a.to v)) e ∙ enters_with none rows i v 0 es ∙ sym (enters_with tt [] i v 0 es)))
 
 -- ---- the numbers that an index lists
 pub record Numbered (end : ArcEnd) (v i : ℕ) (os : List (Option LiveArc)) (k : ℕ) : Type 0 where

@@ -1,7 +1,8 @@
 -- One arc brings its lines, and then the next.
 use Rattle.std.proofs.Common.{◌≡◌, ℕ, zero, suc, ◌+◌, ◌<◌, List, [], ◌∷◌, ◌++◌, map, length, get_or, take, drop, Option, sym, refl, ap, ◌∙◌, subst, ap₂, arith}
 use Rattle.std.specs.List.{flat_map}
-use Rattle.std.proofs.lemmas.List.{take_more, append-nil, append_assoc, take-append-drop}
+use Rattle.std.proofs.lemmas.List.{take_more, append-nil, take-append-drop}
+use Rattle.std.proofs.lemmas.Grind.{flat_map-append}
 use Rattle.paths.specs.Rows.{Rows}
 use Rattle.paths.specs.Sheets as sheets
 use Rattle.paths.specs.Sheets.{entered}
@@ -9,10 +10,6 @@ use Rattle.sheet.specs.declared.line.Line.{Line}
 use Rattle.timing.specs.Lines.{front, behind, Stands, Filled}
 use Rattle.timing.proofs.Entering.{entered_append, entered_grows}
 use Rattle.timing.proofs.Crossed.{stands_then, front_same}
-
-pub joined_append : {X Y : Type 0} (f : X → List Y) (xs ys : List X) → flat_map f (xs ++ ys) ≡ flat_map f xs ++ flat_map f ys
-joined_append f [] ys = refl
-joined_append f (x ∷ xs) ys = ap (λ l. f x ++ l) (joined_append f xs ys) ∙ sym (append_assoc (f x) (flat_map f xs) (flat_map f ys))
 
 pub row_at : {M R : Type 0} (f : M → R) (xs : List M) (k : ℕ) (y : M) (d : R) → k < length xs → f (get_or xs k y) ≡ get_or (map f xs) k d
 row_at f [] k y d h = absurd (omega arith)
@@ -35,7 +32,7 @@ module _ {M R : Type 0} (row : M → R) (m : Rows R) {X : Type 0} (F : List (she
       ap₂ (λ p q. entered m (F p (get_or arcs i d)) q) (front_same row base l0 l1 x0 x1 (joining i arcs base n l0 x0) j s) s.stand
       ∙ sym (entered_append m (flat_map g (take i arcs)) (g (get_or arcs i d)) t)
       ∙ ap (λ cs. entered m (flat_map g (take i arcs) ++ cs) t) (sym (append-nil (g (get_or arcs i d))))
-      ∙ ap (λ cs. entered m cs t) (sym (ap (flat_map g) (take_more arcs i d h) ∙ joined_append g (take i arcs) (get_or arcs i d ∷ []))) in
+      ∙ ap (λ cs. entered m cs t) (sym (ap (flat_map g) (take_more arcs i d h) ∙ flat_map-append g (take i arcs) (get_or arcs i d ∷ []))) in
       stands_then row base l0 l1 l2 x0 x1 x2 (joining i arcs base n l0 x0) (joining (i + 1) arcs base n l0 x0) j r s
       (subst (λ (u : List (sheets.Line R)). Filled row base l1 x1 u l2 x2 r) eq f)
 
@@ -44,5 +41,5 @@ module _ {M R : Type 0} (row : M → R) (m : Rows R) {X : Type 0} (F : List (she
   joining_full arcs i base n l0 x0 f =
       let g = F (front row base l0 x0) in
       let t = behind row base n l0 x0 in
-      let eq : flat_map g arcs ≡ flat_map g (take i arcs) ++ flat_map g (drop i arcs) = ap (flat_map g) (sym (take-append-drop i arcs)) ∙ joined_append g (take i arcs) (drop i arcs) in
+      let eq : flat_map g arcs ≡ flat_map g (take i arcs) ++ flat_map g (drop i arcs) = ap (flat_map g) (sym (take-append-drop i arcs)) ∙ flat_map-append g (take i arcs) (drop i arcs) in
       omega (arith, f, ap (λ cs. length (entered m cs t)) eq, ap length (entered_append m (flat_map g (take i arcs)) (flat_map g (drop i arcs)) t), entered_grows m (flat_map g (drop i arcs)) (joining i arcs base n l0 x0))

@@ -1,26 +1,22 @@
 -- The columns of the tables, one by one.
-use Rattle.std.proofs.Common.{◌≡◌, ℕ, ◌-◌, ◌≤◌, Bool, true, false, ◌&&◌, List, [], ◌∷◌, ◌++◌, map, length, take, drop, replicate, Some, None, Ok, Err, Option, Result, sym, refl, ap, ◌∙◌, ap₂, arith}
+use Rattle.std.proofs.Common.{◌≡◌, ℕ, ◌-◌, ◌≤◌, true, List, [], ◌∷◌, ◌++◌, map, length, take, drop, replicate, sym, refl, ap, ◌∙◌, ap₂, arith}
 use mathlib.Core.List.{map-map}
 use borrow.Rule.Slice.PartMut.{put_mid}
-use Rattle.std.proofs.lemmas.List.{length-map, length-append, length-drop, length-take-le, take_all, take_at, take-map, map-append}
-use Rattle.std.proofs.lemmas.Bool.{eqb-true, leb-true}
+use Rattle.std.proofs.lemmas.List.{length-map, length-append, length-drop, length-take-le, take_all, take_at, map-append}
+use Rattle.std.proofs.lemmas.Bool.{and_parts, eqb-true, leb-true}
 use Rattle.paths.specs.Rows.{Rows}
 use Rattle.paths.specs.Blocks.{RowBlock}
-use Rattle.paths.specs.Graphs.{Untimed}
 use Rattle.paths.specs.Sheets as sheets
 use Rattle.paths.proofs.Slacks.{lines_are}
 use Rattle.sheet.specs.declared.line.Line.{Line}
 use Rattle.sheet.specs.declared.tables.TablesMut.{TablesMut}
 use Rattle.sheet.specs.declared.node.NodeEntry.{NodeEntry}
 use Rattle.sheet.specs.Blanks.{blank_line, blank_entry}
-use Rattle.sheet.specs.Tables.{Tables, tables_of, well_sized, blanked}
+use Rattle.sheet.specs.Tables.{tables_of, well_sized, blanked}
 use Rattle.sheet.specs.Lent.{tables_in}
-use Rattle.sheet.specs.Written.{line_with, line_of, arrival_of}
-use Rattle.timing.specs.declared.refusals.TimeRefusal.{TimeRefusal}
-use Rattle.timing.specs.Lines.{view, views}
+use Rattle.sheet.specs.Written.{arrival_of}
+use Rattle.timing.specs.Lines.{views}
 use Rattle.timing.specs.Arrived.{Arrived}
-use Rattle.timing.specs.Filled.{FilledFor}
-use Rattle.timing.specs.Arriving.{LinesOf}
 use Rattle.timing.proofs.Crossed.{put_end}
 
 -- the lengths of tables that have the right ones
@@ -31,16 +27,12 @@ pub record Sizes {M : Type 0} (t : TablesMut M) : Type 0 where
   pub nodes : length t.nodes.now ≡ 256
   pub slacks : length t.slacks.now ≡ 256
 
-both : (x y : Bool) → (x && y) ≡ true → (x ≡ true) × (y ≡ true)
-both true y e = (refl, e)
-both false y e = absurd (let z : ◌≡◌ {A = ℕ} 0 1 = cc in omega arith)
-
 pub sizes : {M R : Type 0} (row : M → R) (t : TablesMut M) → well_sized (tables_in row t) ≡ true → Sizes t
 sizes row t e =
-    let few = both _ _ e in
-    let arrivals = both _ _ few.1 in
-    let required = both _ _ arrivals.1 in
-    let nodes = both _ _ required.1 in
+    let few = and_parts _ _ e in
+    let arrivals = and_parts _ _ few.1 in
+    let required = and_parts _ _ arrivals.1 in
+    let nodes = and_parts _ _ required.1 in
     record {
       lines = leb-true _ _ few.0;
       arrivals = sym (length-map t.arrivals.now row) ∙ eqb-true _ _ arrivals.0;
@@ -105,24 +97,3 @@ arrival_column {M} {R} row m b ls xs firsts n a =
     sym (views_arrivals row (take n ls) (take n xs) (length-take-le n xs (omega (arith, a.fit, a.even)) ∙ sym (length-take-le n ls a.fit)))
     ∙ ap (map (λ (l : sheets.Line R). l.arrival)) (a.stand ∙ sym (lines_are m b 0 (sheets.arrivals m b 256)))
     ∙ map-map (λ (l : sheets.Line R). l.arrival) (λ t. t.line) (sheets.sheet m b 256)
-
--- ---- filled tables have the arrivals in front
-view_of : {M R : Type 0} (row : M → R) (l : sheets.Line R) (o : Option (sheets.Told R)) (x : M) → row x ≡ l.arrival → view row (line_with l o) x ≡ l
-view_of row l None x e = λ i. record { node = l.node; tag = l.tag; arrival = e i; back_arc = l.back_arc; back_line = l.back_line }
-view_of row l (Some y) x e = λ i. record { node = l.node; tag = l.tag; arrival = e i; back_arc = l.back_arc; back_line = l.back_line }
-
-views_of : {M R : Type 0} (row : M → R) (ts : List (sheets.Timed R)) (xs : List M) → map row xs ≡ map arrival_of ts → views row (map line_of ts) xs ≡ map (λ t. t.line) ts
-views_of row [] xs e = refl
-views_of row (t ∷ ts) [] e = absurd (let z : ◌≡◌ {A = ℕ} 0 1 = cc in omega arith)
-views_of row (t ∷ ts) (x ∷ xs) e = ap₂ (λ a b. a ∷ b) (view_of row t.line t.required x (cc)) (views_of row ts xs (cc))
-
-pub filled_lines : {M R : Type 0} (row : M → R) (m : Rows R) (ls : List Line) (xs ys : List M) (ns : List NodeEntry) (ss : List M) (block : Result (RowBlock R) Untimed) (r : Result ℕ TimeRefusal)
-    → FilledFor m (length ls) (tables_of row ls xs ys ns ss) block r → LinesOf row m ls xs block r
-filled_lines row m ls xs ys ns ss (Err u) r f = f
-filled_lines row m ls xs ys ns ss (Ok b) (Err x) f = (f.0, omega (arith, f.1, sheet_length m b 256))
-filled_lines {M} {R} row m ls xs ys ns ss (Ok b) (Ok n) f =
-    let ts = sheets.sheet m b 256 in
-    let written_are = f.2 in
-    let lines : take n ls ≡ map line_of ts = ap (λ (t : Tables R). take n t.lines) written_are ∙ take_at (map line_of ts) _ n (length-map ts line_of ∙ sym f.0) in
-    let times : map row (take n xs) ≡ map arrival_of ts = sym (take-map row n xs) ∙ ap (λ (t : Tables R). take n t.arrivals) written_are ∙ take_at (map arrival_of ts) _ n (length-map ts arrival_of ∙ sym f.0) in
-    (f.0 ∙ sheet_length m b 256, ap (λ l. views row l (take n xs)) lines ∙ views_of row ts (take n xs) times ∙ lines_are m b 0 (sheets.arrivals m b 256))

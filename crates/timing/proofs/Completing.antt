@@ -6,7 +6,7 @@ use Rattle.std.proofs.lemmas.List.{length-append, length-map, take_all, get_or-m
 use Rattle.std.proofs.lemmas.Bool.{cases_lt}
 use Rattle.measure.specs.declared.measure.Measure.{Ghosts as Measure}
 use Rattle.measure.specs.Rows.{Row, Bounded, zeros}
-use Rattle.measure.specs.Bounds.{from_bounded}
+use Rattle.measure.proofs.Bounds.{from_bounded}
 use Rattle.paths.specs.Rows.{Rows}
 use Rattle.paths.specs.Blocks.{RowBlock}
 use Rattle.paths.specs.Sheets as sheets

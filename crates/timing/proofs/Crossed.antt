@@ -3,7 +3,7 @@ use Rattle.std.proofs.Common.{◌≡◌, ℕ, zero, suc, ◌+◌, ◌-◌, ◌<�
 use lib.Bits.{bit_and}
 use borrow.Rule.Slice.PartMut.{put_mid}
 use Rattle.std.specs.List.{AllByRecursion}
-use Rattle.std.proofs.lemmas.List.{take_at, drop_at, take_rest, drop_all, drop-drop, append-nil, length-take-le, length-drop, length-append}
+use Rattle.std.proofs.lemmas.List.{drop_all, drop-drop, append-nil, length-take-le, length-drop}
 use Rattle.std.proofs.lemmas.Bool.{eq-eqb, ne_eqb}
 use Rattle.measure.specs.declared.measure.Measure.{Ghosts as Measure}
 use Rattle.measure.specs.Rows.{Row}
@@ -11,11 +11,12 @@ use Rattle.paths.specs.Rows.{Rows}
 use Rattle.paths.specs.Tags.{apart}
 use Rattle.paths.specs.Sheets as sheets
 use Rattle.paths.specs.Sheets.{enter, entered}
+use Rattle.paths.specs.Relations.{ByTag}
 use Rattle.sheet.specs.declared.line.Line.{Line}
 use Rattle.timing.specs.declared.crossing.Crossing.{Crossing}
 use Rattle.graph.specs.Sorting.{segment}
 use Rattle.sheet.specs.Lines.{past_line}
-use Rattle.timing.specs.Lines.{view, views, front, behind, Fills, Stands, Filled}
+use Rattle.timing.specs.Lines.{view, views, front, behind, Stands, Filled}
 use Rattle.timing.specs.Crossings.{crossing_tag, crossing_line, crossed, Near, Entering}
 use Rattle.timing.proofs.Entering.{entered_append, entered_grows, length_front}
 
@@ -25,27 +26,6 @@ put_end a xs ys h =
     ap (λ l. take a xs ++ (ys ++ l)) (drop_all (length xs - a) (drop a xs) (omega (arith, length-drop a xs))) ∙ ap (λ l. take a xs ++ l) (append-nil ys)
 
 module _ {M R : Type 0} (row : M → R) where
-  pub filled_part : (base : ℕ) (ls : List Line) (xs : List M) (pl : List Line) (px : List M) (F : List Line → List M → List (sheets.Line R)) (r : Option ℕ) → base ≤ length ls → length xs ≡ length ls
-      → length pl ≡ length ls - base → length px ≡ length ls - base
-      → Fills (length (take (length ls - base) (drop base ls))) (F (take (length ls - base) (drop base ls)) (take (length xs - base) (drop base xs))) (λ n. front row n pl px) r
-      → Filled row base ls xs (F (drop base ls) (drop base xs)) (put_mid base (length ls - base) ls pl) (put_mid base (length xs - base) xs px) r
-  filled_part base ls xs pl px F None h e lp lx f =
-      omega (arith, f, ap length (take_rest ls base), length-drop base ls, ap length (ap₂ F (take_rest ls base) (take_rest xs base)))
-  filled_part base ls xs pl px F (Some n) h e lp lx f =
-      let a = put_end base ls pl h in
-      let b = put_end base xs px (omega arith) in
-      let k = length-take-le base ls h in
-      let j = length-take-le base xs (omega arith) in
-      record {
-        same_lines = ap (take base) a ∙ take_at (take base ls) pl base k;
-        same_times = ap (take base) b ∙ take_at (take base xs) px base j;
-        lines_length = omega (arith, ap length a, length-append (take base ls) pl, k);
-        times_length = omega (arith, ap length b, length-append (take base xs) px, j);
-        room = omega (arith, f.0, ap length (take_rest ls base), length-drop base ls);
-        stand = ap₂ (λ l x. front row n (drop base l) (drop base x)) a b ∙ ap₂ (front row n) (drop_at (take base ls) pl base k) (drop_at (take base xs) px base j)
-            ∙ f.1 ∙ ap₂ F (take_rest ls base) (take_rest xs base);
-      }
-
   -- what stands at the start
   pub stands_none : (base n : ℕ) (ls : List Line) (xs : List M) → base + n ≤ length ls → length xs ≡ length ls → Stands row base ls xs (behind row base n ls xs) ls xs n
   stands_none base n ls xs h e = record { same_lines = refl; same_times = refl; lines_length = refl; times_length = e; room = h; stand = refl }
@@ -82,12 +62,13 @@ module _ {M R : Type 0} (row : M → R) where
   all_at P (suc base) (suc i) (l ∷ ls) (x ∷ xs) y h b e r a = all_at P base i ls xs y (omega arith) (omega arith) (omega arith) r a.1
 
 -- more lines may enter
-pub entering_on : {M : Type 0} (m : Measure M) (base j n : ℕ) (l0 l1 : List Line) (x0 x1 : List M) (t : List (sheets.Line (Row m.width))) → Entering m base j l0 x0 → Stands m.row base l0 x0 t l1 x1 n → Entering m base n l1 x1
-entering_on m base j n l0 l1 x0 x1 t e s = record {
+pub entering_on : {M : Type 0} (m : Measure M) (base j n : ℕ) (l0 l1 : List Line) (x0 x1 : List M) (t : List (sheets.Line (Row m.width))) → Entering m base j l0 x0 → Stands m.row base l0 x0 t l1 x1 n → ByTag t → Entering m base n l1 x1
+entering_on m base j n l0 l1 x0 x1 t e s p = record {
   few = e.few;
   room = omega (arith, s.room, s.lines_length);
   even = s.times_length ∙ sym s.lines_length;
   near = subst (λ (ls : List (sheets.Line (Row m.width))). Near m.width 256000000 ls) (sym (front_same m.row base l0 l1 x0 x1 t n s)) e.near;
+  sorted = subst ByTag (sym s.stand) p;
 }
 
 -- ---- segments

@@ -15,22 +15,26 @@ use Rattle.paths.proofs.RowLaws.{Laws}
 use Rattle.paths.proofs.Choosing.{in_all, some_is}
 use Rattle.paths.proofs.Joining.{laws_of, given, far_bounded}
 use Rattle.paths.proofs.Slacks.{required_near}
+use Rattle.paths.proofs.Entering.{entered_sorted}
+use Rattle.paths.proofs.Arriving.{candidates}
+use Rattle.graph.specs.Sorting.{segment}
 use Rattle.sheet.specs.declared.line.Line.{Line}
 use Rattle.sheet.specs.Lines.{past_line}
 use Rattle.sheet.specs.Written.{line_with, line_of, row_or, required_of}
-use Rattle.timing.specs.Lines.{views}
+use Rattle.timing.specs.Lines.{views, SortedByTag}
 use Rattle.timing.specs.declared.block.TimedBlock.{TimedBlock}
 use Rattle.timing.specs.Measured.{measured}
 use Rattle.timing.specs.TimedBlock.{arcs_in, rows_of, asks}
 use Rattle.timing.specs.Arrived.{Arrived}
-use Rattle.timing.specs.Requiring.{Mark, mark, mark_of, marks, as_list, AllBeyond, AllAskBeyond}
+use Rattle.timing.specs.Requiring.{Mark, mark_of, marks, as_list, AllBeyond, AllAskBeyond}
 use Rattle.timing.specs.RequiredFrom.{asked_line, unasked, unasked_of, FirstsAre, RequiredFrom}
 use Rattle.timing.proofs.Tabled.{LawsOf, rows_sound}
 use Rattle.timing.proofs.Blocks.{Listed, all_listed}
-use Rattle.timing.proofs.Arriving.{all_get_d, lines_at, own_nodes, later, arrivals_grow, first_next}
+use Rattle.timing.proofs.Arriving.{all_get_d, lines_at, own_nodes, later, arrivals_grow, first_next, segment_at}
 use Rattle.timing.proofs.Requiring.{marks_drop}
+use Rattle.timing.proofs.Sorted.{sorted_segment}
 use Rattle.std.proofs.ByRecursion.{All-drop}
-use Rattle.timing.proofs.AskedBy.{timed_drop, asked_here, first_after, firsts_rise, by_tables}
+use Rattle.timing.proofs.AskedBy.{mark, timed_drop, asked_here, first_after, firsts_rise, by_tables}
 
 -- ---- one line
 asked_written : {R : Type 0} (x : Line) (l : sheets.Line R) (o : Option (sheets.Told R)) → unasked x ≡ unasked_of l → asked_line x o ≡ line_with l o
@@ -94,8 +98,11 @@ module _ {M : Type 0} (measure : Measure M) (laws : LawsOf measure) (t : TimedBl
   abbrev orders : Laws m
   orders = laws_of measure.width measure.not_later laws.order
 
+  arrived_count : (ls : List Line) → map unasked ls ≡ map unasked_of (arrivals m b 256) → length ls ≡ length (arrivals m b 256)
+  arrived_count ls arrived = sym (length-map ls unasked) ∙ ap length arrived ∙ length-map (arrivals m b 256) unasked_of
+
   pub lines_count : (i : ℕ) (ls : List Line) (ys : List M) → RequiredFrom row m b 256 i ls ys → length ls ≡ length (arrivals m b 256)
-  lines_count i ls ys r = sym (length-map ls unasked) ∙ ap length r.arrived ∙ length-map (arrivals m b 256) unasked_of
+  lines_count i ls ys r = arrived_count ls r.arrived
 
   -- before the first step and after the last
   pub all_unasked : (ls : List Line) (xs : List M) (firsts : List ℕ) → Arrived row m b 256 ls xs firsts (length ls) → map unasked ls ≡ map unasked_of (arrivals m b 256)
@@ -107,7 +114,7 @@ module _ {M : Type 0} (measure : Measure M) (laws : LawsOf measure) (t : TimedBl
   required_none ls ys firsts e at whole =
       let A = arrivals m b 256 in
       let i = get_or firsts 256 0 in
-      let size : length ls ≡ length A = sym (length-map ls unasked) ∙ ap length whole ∙ length-map A unasked_of in
+      let size : length ls ≡ length A = arrived_count ls whole in
       let last : i ≡ length A = at 256 (omega arith) in
       let no_lines : drop i ls ≡ [] = drop_all i ls (omega arith) in
       let no_rows : drop i ys ≡ [] = drop_all i ys (omega arith) in
@@ -195,18 +202,24 @@ module _ {M : Type 0} (measure : Measure M) (laws : LawsOf measure) (t : TimedBl
               ∙ ap (λ cs. map (required_of m.origin) (timed m b j cs)) (sym behind);
         }
 
-    -- the lines of each node stand in the table
+    -- the lines of each node stand in the table, sorted by tag
     pub node_rises : (v : ℕ) → v < 256 → get_or firsts v 0 ≤ get_or firsts (v + 1) 0
     node_rises v h = omega (arith, at v (omega arith), first_after m b orders arcs rows refl 256 t.graph.now.rising t.graph.now.noded firsts at v h)
 
     pub node_stands : (v : ℕ) → v < 256 → get_or firsts (v + 1) 0 ≤ length (arrivals m b 256)
     node_stands v h = omega (arith, first_next m b orders firsts v 256 h at, arrivals_grow m b orders v 256 h)
 
+    node_sorted : (v : ℕ) → v < 256 → (ls : List Line) → map unasked ls ≡ map unasked_of (arrivals m b 256) → SortedByTag (segment (get_or firsts v 0) (get_or firsts (v + 1) 0 - get_or firsts v 0) ls)
+    node_sorted v h ls arrived =
+        let own : segment (get_or firsts v 0) (get_or firsts (v + 1) 0 - get_or firsts v 0) (arrivals m b 256) ≡ lines_at m b orders v =
+        ap₂ (λ x y. segment x (y - x) (arrivals m b 256)) (at v (omega arith)) (first_next m b orders firsts v 256 h at) ∙ segment_at m b orders v 256 h in
+        sorted_segment (get_or firsts v 0) (get_or firsts (v + 1) 0 - get_or firsts v 0) (arrivals m b 256) (lines_at m b orders v) ls own (entered_sorted m (candidates m b v) [] tt) arrived
+
     -- and so those that the arcs from a node lead to
-    pub all_beyond : (v : ℕ) (ls : List Line) → length ls ≡ length (arrivals m b 256) → AllBeyond arcs firsts (length ls) (numbers_at Tail v 0 arcs)
-    all_beyond v ls size i e h live =
+    pub all_beyond : (v : ℕ) (ls : List Line) → map unasked ls ≡ map unasked_of (arrivals m b 256) → AllBeyond arcs firsts ls (numbers_at Tail v 0 arcs)
+    all_beyond v ls arrived i e h live =
         let lt : e.to < 256 = t.graph.now.noded _ e live in
-        record { rising = node_rises e.to lt; stand = omega (arith, node_stands e.to lt) }
+        record { rising = node_rises e.to lt; stand = omega (arith, node_stands e.to lt, arrived_count ls arrived); sorted = node_sorted e.to lt ls arrived }
 
     -- the required times beyond a node's arcs are near zero
     pub all_ask_beyond : (v i : ℕ) (ls : List Line) (ys : List M) → i ≤ get_or firsts (v + 1) 0 → RequiredFrom row m b 256 i ls ys → AllAskBeyond measure.width row arcs firsts ls ys (numbers_at Tail v 0 arcs)
@@ -214,5 +227,5 @@ module _ {M : Type 0} (measure : Measure M) (laws : LawsOf measure) (t : TimedBl
         let l = all_get_d (Listed Tail v arcs) (numbers_at Tail v 0 arcs) p 0 h (all_listed Tail v arcs) in
         let same : a ≡ l.arc = some_is a l.arc (sym live ∙ l.live) in
         let lt : v < a.to = omega (arith, t.graph.now.rising _ a live, ap (λ (x : LiveArc). x.from) same, l.at) in
-        let in_table = all_beyond v ls (lines_count i ls ys r) p a h live in
+        let in_table = all_beyond v ls r.arrived p a h live in
         asks_from i ls ys r j y (omega (arith, le, lo, firsts_rise m b orders arcs rows refl 256 t.graph.now.rising t.graph.now.noded firsts at v a.to lt (t.graph.now.noded _ a live), at a.to (omega (arith, t.graph.now.noded _ a live)))) (omega (arith, hi, in_table.stand)) q f

@@ -1,5 +1,6 @@
 pub mod Passed
 pub mod Sums
+pub mod Sorted
 pub mod Entering
 pub mod Crossed
 pub mod Bringing
@@ -13,6 +14,7 @@ pub mod Requiring
 pub mod Slacking
 pub mod Columns
 pub mod Outcomes
+pub mod Agreeing
 pub mod NodeEntries
 pub mod Completing
 pub mod AskedBy

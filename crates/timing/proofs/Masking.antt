@@ -1,6 +1,7 @@
 -- The sets that begin and end at the nodes, from those of the arcs.
 use Rattle.std.proofs.Common.{◌≡◌, ℕ, zero, suc, ◌+◌, ◌-◌, ◌/◌, ◌%◌, ◌^◌, ◌<◌, Bool, true, false, cond, not, ◌&&◌, ◌||◌, eqb, List, [], ◌∷◌, length, get_or, take, set, Some, None, Option, sym, refl, ap, ◌∙◌, ap₂, ⊎_elim, pow-suc, add-one, arith}
 use lib.Bits.{bit_and, bit_or, and_le_l}
+use Rattle.std.specs.List.{list_any}
 use Rattle.std.proofs.lemmas.List.{get_or-set_same, get_or-set_other, length-set}
 use Rattle.std.proofs.lemmas.Bool.{eq-eqb, ne_eqb, cases_eq}
 use Rattle.graph.specs.declared.parts.LiveArc.{LiveArc}
@@ -8,7 +9,7 @@ use Rattle.graph.specs.declared.parts.ArcEnd.{ArcEnd}
 use Rattle.graph.specs.declared.parts.ArcEnd.TheVariants.{Tail, Head}
 use Rattle.graph.specs.Index.{node_at}
 use Rattle.paths.specs.Tags.{set_count, has, tag_of}
-use Rattle.paths.specs.Blocks.{any, leaves, enters, begin_sets, end_sets}
+use Rattle.paths.specs.Blocks.{leaves, enters, begin_sets, end_sets}
 use Rattle.paths.proofs.TagLaws.{has_and, has_or}
 use Rattle.timing.specs.WithRows.{bare}
 use Rattle.timing.specs.Masks.{at_node, Gathered, with_sets, sets_without, Masked}
@@ -54,17 +55,17 @@ has_not (suc n) y (suc i) h l =
 
 -- ---- one more arc
 module _ (f : Option LiveArc → Bool) (none : f None ≡ false) where
-  any_more : (os : List (Option LiveArc)) (i : ℕ) → any f (take (suc i) os) ≡ (any f (take i os) || f (get_or os i None))
+  any_more : (os : List (Option LiveArc)) (i : ℕ) → list_any f (take (suc i) os) ≡ (list_any f (take i os) || f (get_or os i None))
   any_more [] zero = sym none
   any_more [] (suc i) = sym none
   any_more (o ∷ os) zero = or_false (f o)
-  any_more (o ∷ os) (suc i) = ap (λ t. f o || t) (any_more os i) ∙ sym (or_assoc (f o) (any f (take i os)) (f (get_or os i None)))
+  any_more (o ∷ os) (suc i) = ap (λ t. f o || t) (any_more os i) ∙ sym (or_assoc (f o) (list_any f (take i os)) (f (get_or os i None)))
 
   -- no arc is live from n on
-  pub any_all : (os : List (Option LiveArc)) (n : ℕ) → ((k : ℕ) (e : LiveArc) → get_or os k None ≡ Some e → k < n) → any f (take n os) ≡ any f os
+  pub any_all : (os : List (Option LiveArc)) (n : ℕ) → ((k : ℕ) (e : LiveArc) → get_or os k None ≡ Some e → k < n) → list_any f (take n os) ≡ list_any f os
   any_all [] zero h = refl
   any_all [] (suc n) h = refl
-  any_all (None ∷ os) zero h = sym (ap (λ t. t || any f os) none ∙ sym (any_all os zero (λ k e l. absurd (omega (arith, h (suc k) e l)))))
+  any_all (None ∷ os) zero h = sym (ap (λ t. t || list_any f os) none ∙ sym (any_all os zero (λ k e l. absurd (omega (arith, h (suc k) e l)))))
   any_all (Some e ∷ os) zero h = absurd (omega (arith, h 0 e refl))
   any_all (o ∷ os) (suc n) h = ap (λ t. f o || t) (any_all os n (λ k e l. omega (arith, h (suc k) e l)))
 
@@ -78,10 +79,10 @@ length-with_sets end (Some e) masks = length-set masks (node_at end e) (bit_or (
 
 pub gathered_more : (end : ArcEnd) (os : List (Option LiveArc)) (masks : List ℕ) (n : ℕ) → length masks ≡ 256 → Gathered end (take n os) masks → Gathered end (take (n + 1) os) (with_sets end (get_or os n None) masks)
 gathered_more end os masks n s g v i l =
-    go (get_or os n None) ∙ sym (any_more (at_node end v i) refl os n) ∙ ap (λ k. any (at_node end v i) (take k os)) (sym (add-one n))
+    go (get_or os n None) ∙ sym (any_more (at_node end v i) refl os n) ∙ ap (λ k. list_any (at_node end v i) (take k os)) (sym (add-one n))
   where
     before : Bool
-    before = any (at_node end v i) (take n os)
+    before = list_any (at_node end v i) (take n os)
 
     go : (o : Option LiveArc) → has (get_or (with_sets end o masks) v 0) i ≡ (before || at_node end v i o)
     go None = g v i l ∙ sym (or_false before)

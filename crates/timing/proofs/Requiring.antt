@@ -2,6 +2,7 @@
 use Rattle.std.proofs.Common.{◌≡◌, ℕ, zero, suc, ◌+◌, ◌<◌, ◌≤◌, Bool, true, false, cond, eqb, List, [], ◌∷◌, ◌++◌, length, get_or, take, drop, Some, None, Option, sym, refl, ap, ◌∙◌, ap₂, arith}
 use Rattle.std.specs.List.{flat_map, position, position_from}
 use Rattle.std.proofs.lemmas.List.{take_more, append-nil, append_assoc, get_or-take, get_or-drop, length-drop, length-take-le}
+use Rattle.std.proofs.lemmas.Grind.{flat_map-append}
 use Rattle.std.proofs.lemmas.List.Quantifiers.{position-Some}
 use Rattle.std.proofs.lemmas.Iterator.Adapters.{position_from-zero}
 use Rattle.paths.specs.Rows.{Rows}
@@ -12,7 +13,6 @@ use Rattle.timing.specs.declared.crossing.Crossing.{Crossing}
 use Rattle.graph.specs.Sorting.{segment}
 use Rattle.sheet.specs.Lines.{past_line}
 use Rattle.timing.proofs.Crossed.{some_at}
-use Rattle.timing.proofs.Bringing.{joined_append}
 use Rattle.timing.specs.Requiring.{mark_of, marks, as_list, has_tag, pick, ask_of, asked_of}
 
 get_or-segment : {X : Type 0} (a n r : ℕ) (xs : List X) (d : X) → r < n → get_or (segment a n xs) r d ≡ get_or xs (a + r) d
@@ -110,8 +110,4 @@ module _ {R : Type 0} (m : Rows R) where
   asks_more cs f arcs i h =
       pick_more (cs ++ flat_map (λ k. as_list (f k)) (take i arcs)) (f (get_or arcs i 0))
       ∙ ap (first_least m) (append_assoc cs (flat_map (λ k. as_list (f k)) (take i arcs)) (as_list (f (get_or arcs i 0)))
-      ∙ ap (λ l. cs ++ l) (ap (λ l. flat_map (λ k. as_list (f k)) (take i arcs) ++ l) (sym (append-nil (as_list (f (get_or arcs i 0))))) ∙ sym (joined_append (λ k. as_list (f k)) (take i arcs) (get_or arcs i 0 ∷ [])) ∙ ap (flat_map (λ k. as_list (f k))) (sym (take_more arcs i 0 h))))
-
-  pub asks_none : (o : Option (sheets.Told R)) → o ≡ first_least m (as_list o ++ [])
-  asks_none None = refl
-  asks_none (Some a) = refl
+      ∙ ap (λ l. cs ++ l) (ap (λ l. flat_map (λ k. as_list (f k)) (take i arcs) ++ l) (sym (append-nil (as_list (f (get_or arcs i 0))))) ∙ sym (flat_map-append (λ k. as_list (f k)) (take i arcs) (get_or arcs i 0 ∷ [])) ∙ ap (flat_map (λ k. as_list (f k))) (sym (take_more arcs i 0 h))))

@@ -3,7 +3,8 @@ use Rattle.std.proofs.Common.{◌≡◌, ℕ, ◌≤◌, true, ℤ, is_some, Som
 use Rattle.std.proofs.lemmas.Int.{ints, to_z-of_z}
 use Rattle.measure.specs.declared.measure.Measure.{Ghosts as Measure}
 use Rattle.measure.specs.Rows.{Bounded, on_some, plus, negated, summed}
-use Rattle.measure.specs.Bounds.{bounded_negated, summed_within}
+use Rattle.measure.specs.Bounds.{bounded_negated}
+use Rattle.measure.proofs.Bounds.{summed_within}
 use Rattle.graph.specs.Ranges.{is_ticks}
 use Rattle.paths.proofs.Making.{ticks_within}
 

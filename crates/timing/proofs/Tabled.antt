@@ -10,6 +10,7 @@ use Rattle.graph.specs.declared.parts.LiveArc.{LiveArc}
 use Rattle.graph.specs.declared.store.TimingGraph.{TimingGraph}
 use Rattle.graph.specs.Ranges.{is_ticks}
 use Rattle.graph.specs.Kept.{Live}
+use Rattle.graph.specs.Trials.{trim_in}
 use Rattle.graph.specs.Block.{Block, block_of, Kept}
 use Rattle.paths.specs.Blocks.{Arc}
 use Rattle.paths.specs.Sound.{Sound}
@@ -82,20 +83,16 @@ module _ {M : Type 0} (m : Measure M) (t : TimedBlock) where
       subst (Bounded m.width 1000000) row (laws.arc d (ticks_within d (t.ticked k e l)))
 
   -- a source that would answer its ticks
-  trim_of : Option LiveArc → ℤ
-  trim_of None = pos 0
-  trim_of (Some e) = e.trim
-
   told : ℕ → Entry
-  told k = Ok (get_or t.ticks k (pos 0) -ℤ trim_of (get_or g.arcs k None))
+  told k = Ok (get_or t.ticks k (pos 0) -ℤ trim_in (get_or g.arcs k None))
 
   told_has : (k : ℕ) (e : LiveArc) → Live g.arcs k e → HasTicks told t.ticks k e
-  unfolding told trim_of
+  unfolding told
   told_has k e l =
       let d = get_or t.ticks k (pos 0) in
       let back : (d -ℤ e.trim) +ℤ e.trim ≡ d = omega (arith, ints) in
       record {
-        ticks_are = ap (λ o. arc_ticks k e.trim (Ok (d -ℤ trim_of o))) l
+        ticks_are = ap (λ o. arc_ticks k e.trim (Ok (d -ℤ trim_in o))) l
             ∙ ap (λ x. cond (is_ticks x) (Ok x) (Err (beyond k))) back
             ∙ ap (λ c. cond c (Ok d) (Err (beyond k))) (t.ticked k e l);
         node = t.graph.now.noded k e l;

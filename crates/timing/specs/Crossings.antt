@@ -6,9 +6,10 @@ use Rattle.measure.specs.Rows.{Row, Bounded}
 use Rattle.paths.specs.Rows.{Rows}
 use Rattle.paths.specs.Tags.{apart}
 use Rattle.paths.specs.Sheets as sheets
+use Rattle.paths.specs.Relations.{ByTag}
 use Rattle.sheet.specs.declared.line.Line.{Line}
 use Rattle.timing.specs.declared.crossing.Crossing.{Crossing}
-use Rattle.timing.specs.Lines.{front}
+use Rattle.timing.specs.Lines.{front, behind}
 
 -- a crossing by the row that its delay means
 abbrev pub meant : {M R : Type 0} → (M → R) → Crossing M → Crossing R
@@ -31,9 +32,10 @@ crossed m h i (l ∷ ls) = let rest = crossed m h (suc i) ls in cond (apart (cro
 abbrev pub Near : (w k : ℕ) → List (sheets.Line (Row w)) → Type 0
 Near w k ls = AllByRecursion (λ l. Bounded w k l.arrival) ls
 
--- count lines stand behind the first base ones, whose arrivals are near zero
+-- count lines, sorted by tag, stand behind the first base ones, whose arrivals are near zero
 pub record Entering {M : Type 0} (m : Measure M) (base count : ℕ) (ls : List Line) (xs : List M) : Type 0 where
   pub few : base ≤ 4096
   pub room : base + count ≤ length ls
   pub even : length xs ≡ length ls
   pub near : Near m.width 256000000 (front m.row base ls xs)
+  pub sorted : ByTag (behind m.row base count ls xs)

@@ -15,5 +15,6 @@ pub mod Slacks
 pub mod Grouped
 pub mod Filled
 pub mod Times
+pub mod Terms
+pub mod Agreement
 pub mod RequiredFrom
-pub mod Arriving

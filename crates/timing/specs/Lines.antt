@@ -1,7 +1,12 @@
 -- What the tables of lines and arrivals stand for.
-use Rattle.std.specs.Prelude.{◌≡◌, ℕ, ◌+◌, ◌<◌, ◌≤◌, List, [], ◌∷◌, length, take, drop, Some, None, Option}
+use Rattle.std.specs.Prelude.{◌≡◌, ℕ, ◌+◌, ◌<◌, ◌≤◌, List, [], ◌∷◌, length, take, drop, Some, None, Option, slice_index_or}
 use Rattle.sheet.specs.declared.line.Line.{Line}
+use Rattle.sheet.specs.Lines.{past_line}
 use Rattle.paths.specs.Sheets as sheets
+
+-- each line has a lower tag than those after it
+abbrev pub SortedByTag : List Line → Type 0
+SortedByTag ls = (i j : ℕ) → i < j → j < length ls → (slice_index_or ls i past_line).tag < (slice_index_or ls j past_line).tag
 
 module _ {M R : Type 0} (row : M → R) where
   -- a line with its arrival

@@ -1,10 +1,11 @@
 -- The sets of the arcs at each node.
 use Rattle.std.specs.Prelude.{◌≡◌, ℕ, ◌<◌, Bool, false, not, ◌&&◌, List, Some, None, Option, ◌==◌, bit_or, slice_index, slice_set}
+use Rattle.std.specs.List.{list_any}
 use Rattle.graph.specs.declared.parts.LiveArc.{LiveArc}
 use Rattle.graph.specs.declared.parts.ArcEnd.{ArcEnd}
 use Rattle.graph.specs.Index.{node_at}
 use Rattle.paths.specs.Tags.{set_count, has, tag_of}
-use Rattle.paths.specs.Blocks.{any, begin_sets, end_sets}
+use Rattle.paths.specs.Blocks.{begin_sets, end_sets}
 use Rattle.timing.specs.WithRows.{bare}
 
 -- whether there is an arc, of set i, with the node v at that end
@@ -14,7 +15,7 @@ at_node end v i (Some e) = has e.sets i && node_at end e == v
 
 -- each node has the sets of its arcs at that end
 abbrev pub Gathered : ArcEnd → List (Option LiveArc) → List ℕ → Type 0
-Gathered end arcs masks = (v i : ℕ) → v < 256 → has (slice_index masks v) i ≡ any (at_node end v i) arcs
+Gathered end arcs masks = (v i : ℕ) → v < 256 → has (slice_index masks v) i ≡ list_any (at_node end v i) arcs
 
 -- the sets of one more arc, if there is one
 abbrev pub with_sets : ArcEnd → Option LiveArc → List ℕ → List ℕ

@@ -10,6 +10,7 @@ use Rattle.sheet.specs.declared.line.Line.{Line}
 use Rattle.timing.specs.declared.crossing.Crossing.{Crossing}
 use Rattle.timing.specs.declared.told.Told.{Told}
 use Rattle.sheet.specs.Lines.{past_line}
+use Rattle.timing.specs.Lines.{SortedByTag}
 use Rattle.timing.specs.Crossings.{crossing_tag}
 use Rattle.timing.specs.Bringing.{crossing_of}
 
@@ -17,9 +18,6 @@ use Rattle.timing.specs.Bringing.{crossing_of}
 pub record Mark (R : Type 0) : Type 0 where
   pub tag : ℕ
   pub required : Option (sheets.Told R)
-
-abbrev pub mark : {R : Type 0} → sheets.Timed R → Mark R
-mark t = record { tag = t.line.tag; required = t.required }
 
 abbrev pub as_list : {X : Type 0} → Option X → List X
 as_list None = []
@@ -73,14 +71,15 @@ module _ {R : Type 0} (m : Rows R) where
     abbrev pub asked_at : List (Mark R) → ℕ → ℕ → Option (sheets.Told R)
     asked_at xs s k = asked_through xs s k (slice_index_or arcs k None)
 
--- the lines of the node that the arc leads to stand in the table
-pub record Beyond (firsts : List ℕ) (count : ℕ) (e : LiveArc) : Type 0 where
+-- the lines of the node that the arc leads to stand in the table, sorted by tag
+pub record Beyond (firsts : List ℕ) (ls : List Line) (e : LiveArc) : Type 0 where
   pub rising : get_or firsts e.to 0 ≤ slice_index firsts (e.to + 1)
-  pub stand : get_or firsts (e.to + 1) 0 ≤ count
+  pub stand : get_or firsts (e.to + 1) 0 ≤ length ls
+  pub sorted : SortedByTag (segment (get_or firsts e.to 0) (slice_index firsts (e.to + 1) - get_or firsts e.to 0) ls)
 
 -- and so for each of the arcs numbered ks
-abbrev pub AllBeyond : List (Option LiveArc) → List ℕ → ℕ → List ℕ → Type 0
-AllBeyond arcs firsts count ks = (i : ℕ) (e : LiveArc) → i < length ks → slice_index_or arcs (slice_index ks i) None ≡ Some e → Beyond firsts count e
+abbrev pub AllBeyond : List (Option LiveArc) → List ℕ → List Line → List ℕ → Type 0
+AllBeyond arcs firsts ls ks = (i : ℕ) (e : LiveArc) → i < length ks → slice_index_or arcs (slice_index ks i) None ≡ Some e → Beyond firsts ls e
 
 -- no required time is beyond 256 million, to either side of zero
 abbrev pub AsksWithin : {M : Type 0} (w : ℕ) → (M → Row w) → List Line → List M → Type 0

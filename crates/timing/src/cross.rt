@@ -1,5 +1,6 @@
 // The lines of a node cross an arc.
 ghost use Rattle.std.specs.Prelude.{◌≡◌, ◌+◌, ◌-◌, ◌<◌, ◌≤◌, length};
+ghost use Rattle.paths.specs.Relations.{ByTag};
 ghost use Rattle.paths.specs.Sheets.{enter as entry, entered};
 ghost use Rattle.measure.specs.Rows.{Bounded};
 ghost use Rattle.graph.specs.Sorting.{segment};
@@ -12,7 +13,7 @@ use crate::enter::enter;
 use measure::Measure;
 use sheet::Line;
 
-// The line enters the `count` lines behind the first `base` ones.
+// The line enters the `count` lines behind the first `base` ones, which are sorted by tag.
 pub(crate) fn enter_behind<M: Measure>(
     lines: &mut [Line],
     times: &mut [M],
@@ -23,6 +24,7 @@ pub(crate) fn enter_behind<M: Measure>(
 ) -> Option<usize>
     requires count_in_bounds { base + count ≤ length lines.old }
     requires times_len { length times.old ≡ length lines.old }
+    requires sorted { ByTag (behind M.Measure.row base count lines.old times.old) }
     ensures { Filled M.Measure.row base lines.old times.old (entry (measured M.Measure) (view M.Measure.row line time) (behind M.Measure.row base count lines.old times.old)) lines.new times.new result }
 {
     enter(&mut lines[base..], &mut times[base..], count, line, time)

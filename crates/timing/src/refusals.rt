@@ -1,6 +1,6 @@
 // Why a timing is refused.
-ghost use Rattle.std.specs.Prelude.{◌≡◌};
-ghost use Rattle.timing.specs.Refusals.{refused_time};
+ghost use Rattle.std.specs.Prelude.{◌≡◌, Some};
+ghost use Rattle.timing.specs.Refusals.{refused_time, time_cause, time_words};
 ghost use Rattle.timing.specs.declared.refusals.TimeRefusal.TheVariants.{SourceFault};
 
 use delay::Fault;
@@ -39,17 +39,31 @@ impl From<Fault> for TimeRefusal {
     }
 }
 
-impl fmt::Display for TimeRefusal {
+// What is said of a refusal behind its number.
+#[derive(Clone, Copy)]
+struct Words(TimeRefusal);
+
+impl fmt::Display for Words {
+    ghost output = { λ words. Some (time_cause words.0) };
+
     fn fmt<W: fmt::Write>(&self, f: &mut fmt::Formatter<W>) -> fmt::Result {
-        let number = self.number();
-        write!(f, "number {number}: ")?;
-        match *self {
-            TimeRefusal::WrongLength => write!(f, "a table has the wrong length"),
+        match self.0 {
+            TimeRefusal::WrongLength => f.write_str("a table has the wrong length"),
             TimeRefusal::SourceFault(fault) => write!(f, "{fault}"),
             TimeRefusal::OutOfRange(arc) => {
                 write!(f, "the delay and trim of arc {arc} are out of range")
             }
-            TimeRefusal::TooFewLines => write!(f, "the tables have too few lines"),
+            TimeRefusal::TooFewLines => f.write_str("the tables have too few lines"),
         }
+    }
+}
+
+impl fmt::Display for TimeRefusal {
+    ghost output = { λ refusal. Some (time_words refusal) };
+
+    fn fmt<W: fmt::Write>(&self, f: &mut fmt::Formatter<W>) -> fmt::Result {
+        let number = self.number();
+        let words = Words(*self);
+        write!(f, "number {number}: {words}")
     }
 }

@@ -7,20 +7,27 @@ ghost use Rattle.graph.specs.Sorting.{segment};
 ghost use Rattle.paths.specs.Sheets.{ended, first_least};
 ghost use Rattle.timing.specs.Measured.{measured};
 ghost use Rattle.timing.specs.TimedBlock.{arcs_in, asks};
+ghost use Rattle.timing.specs.Lines.{SortedByTag};
 ghost use Rattle.timing.specs.Crossings.{meant};
 ghost use Rattle.timing.specs.Requiring.{told, as_list, pick, marks, has_tag, asked_of, Beyond, AllBeyond, AsksBetween, AsksBeyond, AllAskBeyond};
 
 use crate::block::TimedBlock;
 use crate::crossing::Crossing;
+use crate::enter::FEW;
 use crate::told::Told;
 use measure::Measure;
 use sheet::Line;
 
-// Where the first line with the tag stands.
+// Where the line with the tag stands among lines that are sorted by tag.
 fn find(lines: &[Line], tag: u16) -> Option<usize>
+    requires { SortedByTag lines.now }
     ensures { result ≡ position (has_tag tag) lines.now }
 {
-    lines.iter().position(|line| line.tag == tag)
+    if lines.len() <= FEW {
+        lines.iter().position(|line| line.tag == tag)
+    } else {
+        lines.binary_search_by_key(&tag, |line| line.tag).ok()
+    }
 }
 
 // The earlier of two, of equals the first.
@@ -65,6 +72,7 @@ impl<M: Measure> AskedLines<'_, M> {
     ) -> Option<Told<M>>
         requires first_le_last { first ≤ last }
         requires last_in_bounds { last ≤ length self.now.lines.now }
+        requires sorted { SortedByTag (segment first (last - first) self.now.lines.now) }
         requires asks_between { AsksBetween M.width M.Measure.row first last self.now.lines.now self.now.required.now }
         requires bounded { Bounded M.width 1000000 (M.Measure.row crossing.row) }
         ensures { told M.Measure.row result ≡ asked_of (measured M.Measure) (meant M.Measure.row crossing) tag first (segment first (last - first) (marks M.Measure.row self.now.lines.now self.now.required.now)) }
@@ -85,7 +93,7 @@ impl<M: Measure> AskedLines<'_, M> {
 
     // What is asked over an arc of a line with the tag.
     fn ask_over(&self, number: u16, tag: u16, block: &TimedBlock) -> Option<Told<M>>
-        requires beyond { (e : LiveArc) → slice_index_or (arcs_in block.now) number None ≡ Some e → Beyond self.now.firsts.now (length self.now.lines.now) e }
+        requires beyond { (e : LiveArc) → slice_index_or (arcs_in block.now) number None ≡ Some e → Beyond self.now.firsts.now self.now.lines.now e }
         requires within { (e : LiveArc) → slice_index_or (arcs_in block.now) number None ≡ Some e → AsksBeyond M.width M.Measure.row self.now.firsts.now self.now.lines.now self.now.required.now e }
         ensures { told M.Measure.row result ≡ asks M.Measure block.now self.now.firsts.now (marks M.Measure.row self.now.lines.now self.now.required.now) tag number }
     {
@@ -105,7 +113,7 @@ impl<M: Measure> AskedLines<'_, M> {
         tag: u16,
         block: &TimedBlock,
     ) -> Option<Told<M>>
-        requires beyond { AllBeyond (arcs_in block.now) self.now.firsts.now (length self.now.lines.now) numbers.now }
+        requires beyond { AllBeyond (arcs_in block.now) self.now.firsts.now self.now.lines.now numbers.now }
         requires within { AllAskBeyond M.width M.Measure.row (arcs_in block.now) self.now.firsts.now self.now.lines.now self.now.required.now numbers.now }
         ensures { told M.Measure.row result ≡ first_least (measured M.Measure) (as_list (told M.Measure.row end) ++ flat_map (λ k. as_list (asks M.Measure block.now self.now.firsts.now (marks M.Measure.row self.now.lines.now self.now.required.now) tag k)) numbers.now) }
     {

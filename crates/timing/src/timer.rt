@@ -14,6 +14,8 @@ ghost use Rattle.timing.specs.Arrived.{Arrived};
 ghost use Rattle.timing.specs.Refusals.{refused_time};
 ghost use Rattle.timing.specs.Filled.{FilledFor};
 ghost use Rattle.timing.specs.Times.{time_outcome};
+ghost use Rattle.timing.specs.Terms.{terms_of};
+ghost use Rattle.timing.specs.Agreement.{TimingAgrees};
 
 use crate::arrive::arrive_all;
 use crate::backward::require_all;
@@ -92,9 +94,8 @@ fn fill<M: Measure, S: Source>(
     Ok(count)
 }
 
-// Times a graph: writes the lines and the entries of the nodes, and answers how many lines there are. A refused timing
-// leaves every table blank.
-pub fn time<M: Measure, S: Source>(
+// Writes the sheet, or blanks the tables and says why.
+fn write_sheet<M: Measure, S: Source>(
     graph: &TimingGraph,
     source: &mut S,
     tables: &mut TablesMut<'_, M>,
@@ -114,4 +115,23 @@ pub fn time<M: Measure, S: Source>(
         tables.blank();
     }
     timed
+}
+
+// Times a graph: writes the lines and the entries of the nodes, and answers how many lines there are. A refused timing
+// leaves every table blank. What is answered and written is what a person with the list of all open complete paths says.
+pub fn time<M: Measure, S: Source>(
+    graph: &TimingGraph,
+    source: &mut S,
+    tables: &mut TablesMut<'_, M>,
+) -> Result<usize, TimeRefusal>
+    ensures answer { result_map_both (λ n. n) refused_time result ≡ (time_outcome (measured M.Measure) (tables_in M.Measure.row tables.old) (row_block by_node M.Measure.row_of_time M.Measure.row_of_arc (block_of graph.now) (S.Source.means source.old))).answer }
+    ensures tables { tables_in M.Measure.row tables.new ≡ (time_outcome (measured M.Measure) (tables_in M.Measure.row tables.old) (row_block by_node M.Measure.row_of_time M.Measure.row_of_arc (block_of graph.now) (S.Source.means source.old))).tables }
+    ensures agree { TimingAgrees (terms_of M.Measure (S.Source.means source.old)) (block_of graph.now) (tables_in M.Measure.row tables.old) (result_map_both (λ n. n) refused_time result) (tables_in M.Measure.row tables.new) }
+    ensures loans { SameLoans tables.old tables.new }
+    ensures same { S.Source.means source.new ≡ S.Source.means source.old }
+    ensures level { S.Source.depth source.new ≡ S.Source.depth source.old }
+{
+    // the agreement rests on what every graph keeps
+    graph.kept();
+    write_sheet(graph, source, tables)
 }

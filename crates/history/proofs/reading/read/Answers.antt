@@ -5,7 +5,7 @@ use Rattle.sheet.specs.Lent.{tables_in}
 use Rattle.sheet.specs.Traces.{trace_outcome}
 use Rattle.history.specs.declared.steps.StepReply.TheVariants.{Trace}
 use Rattle.history.specs.Answers.{traced}
-use Rattle.history.specs.Steps.{terms_of}
+use Rattle.timing.specs.Terms.{terms_of}
 use Rattle.history.specs.Readings.{Reads}
 use Rattle.history.proofs.reading.read.Goals as goal
 

@@ -8,7 +8,8 @@ use Rattle.history.specs.declared.steps.Step.TheVariants as step
 use Rattle.history.specs.declared.steps.Step.TheVariants.{Time}
 use Rattle.history.specs.declared.steps.StepReply.TheVariants.{Act}
 use Rattle.history.specs.Answers.{answer_of}
-use Rattle.history.specs.Steps.{terms_of, Goes}
+use Rattle.timing.specs.Terms.{terms_of}
+use Rattle.history.specs.Steps.{Goes}
 use Rattle.history.proofs.running.advance.Goals as goal
 
 pub returns-in-Act-Make-clause-ran : goal.returns-in-Act-Make-clause-ran

@@ -6,7 +6,8 @@ use Rattle.ledger.proofs.Histories.{runs_more}
 use Rattle.sheet.specs.Lent.{tables_in}
 use Rattle.history.specs.declared.steps.Step.TheVariants.{Time}
 use Rattle.history.specs.Answers.{answer_of}
-use Rattle.history.specs.Steps.{terms_of, Goes}
+use Rattle.timing.specs.Terms.{terms_of}
+use Rattle.history.specs.Steps.{Goes}
 use Rattle.history.specs.Readings.{Reads}
 use Rattle.history.proofs.Stepping.{answered_step}
 use Rattle.history.proofs.running.read_first.Goals as goal

@@ -1,20 +1,17 @@
 use Rattle.std.proofs.Common.{◌≡◌, ℕ, ◌-◌, ◌≤◌, false, List, map, length, take, drop, sym, ap, ◌∙◌, subst, rules, arith}
 use borrow.Rule.Slice.PartMut.{same_len_mid}
-use Rattle.std.proofs.lemmas.List.{take_all, length-drop, drop-drop}
+use Rattle.std.proofs.lemmas.List.{take_rest, length-drop, drop-drop}
 use Rattle.graph.specs.Block.{block_of}
 use Rattle.ledger.proofs.Histories.{runs_on}
 use Rattle.sheet.specs.Lent.{tables_in}
 use Rattle.history.specs.Answers.{answer_of}
-use Rattle.history.specs.Steps.{terms_of, at_rest, Goes, Runs, nested}
+use Rattle.timing.specs.Terms.{terms_of}
+use Rattle.history.specs.Steps.{at_rest, Goes, Runs, nested}
 use Rattle.history.proofs.Agreeing.{histories_agree}
 use Rattle.history.proofs.running.run.Goals as goal
 
--- a part to the end is what is left
-to_end : {X : Type 0} (xs : List X) (i : ℕ) → take (length xs - i) (drop i xs) ≡ drop i xs
-to_end xs i = take_all (length xs - i) (drop i xs) (omega (arith, length-drop i xs))
-
 left_length : {X : Type 0} (xs : List X) (i : ℕ) → length (take (length xs - i) (drop i xs)) ≡ length xs - i
-left_length xs i = ap length (to_end xs i) ∙ length-drop i xs
+left_length xs i = ap length (take_rest xs i) ∙ length-drop i xs
 
 pub returns-then-replies-steps-clause-agree : goal.returns-then-replies-steps-clause-agree
 returns-then-replies-steps-clause-agree g c = histories_agree _ _ _ _ g.met.M.Measure.laws
@@ -30,7 +27,7 @@ loop-i-preserved g c =
     let i = c.loop-i.i in
     let r = c.advance-i.result in
     let steps = c.args.steps.now in
-    let rest = to_end steps i in
+    let rest = take_rest steps i in
     let here = at_rest (block_of c.loop-i.graph) (tables_in m.row c.loop-i.tables) c.loop-i.list in
     let there = at_rest (block_of c.advance-i.new.graph) (tables_in m.row c.advance-i.new.tables) c.advance-i.new.list in
     let ran = subst (λ f. Runs (k f) here (take r (take (length steps - i) (drop i steps))) (map answer_of (take r c.advance-i.new.replies)) there) inv.3 c.advance-i.ensures.ran in

@@ -2,7 +2,8 @@ use Rattle.std.proofs.Common.{◌≡◌, ◌-◌, ◌≤◌, true, false, map, l
 use Rattle.graph.specs.Block.{block_of}
 use Rattle.sheet.specs.Lent.{tables_in, SameLoans}
 use Rattle.history.specs.Answers.{answer_of}
-use Rattle.history.specs.Steps.{terms_of, at_rest, new, Runs, nested}
+use Rattle.timing.specs.Terms.{terms_of}
+use Rattle.history.specs.Steps.{at_rest, new, Runs, nested}
 use Rattle.history.proofs.running.run.Given as goal
 
 abbrev pub invariant-loop-i : goal.invariant-loop-i

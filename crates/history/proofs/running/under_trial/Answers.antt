@@ -16,7 +16,8 @@ use Rattle.history.specs.declared.steps.Step.TheVariants as step
 use Rattle.history.specs.declared.steps.Step.TheVariants.{Time}
 use Rattle.history.specs.declared.steps.StepReply.TheVariants.{Act}
 use Rattle.history.specs.Answers.{answer_of}
-use Rattle.history.specs.Steps.{State, terms_of, at_rest, Goes, Runs, open_after}
+use Rattle.timing.specs.Terms.{terms_of}
+use Rattle.history.specs.Steps.{State, at_rest, Goes, Runs, open_after}
 use Rattle.history.specs.Readings.{Reads}
 use Rattle.history.proofs.Stepping.{answered_step, unanswered_step}
 use Rattle.history.proofs.running.under_trial.Goals as goal

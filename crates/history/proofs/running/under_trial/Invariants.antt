@@ -4,7 +4,8 @@ use Rattle.graph.specs.Trials.{put_back}
 use Rattle.ledger.proofs.Running.{under}
 use Rattle.sheet.specs.Lent.{tables_in, SameLoans}
 use Rattle.history.specs.Answers.{answer_of}
-use Rattle.history.specs.Steps.{terms_of, at_rest, Runs, nested}
+use Rattle.timing.specs.Terms.{terms_of}
+use Rattle.history.specs.Steps.{at_rest, Runs, nested}
 use Rattle.history.proofs.running.under_trial.Given as goal
 
 abbrev pub invariant-loop-i : goal.invariant-loop-i

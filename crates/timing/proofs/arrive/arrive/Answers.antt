@@ -7,6 +7,7 @@ use Rattle.timing.specs.Measured.{measured}
 use Rattle.timing.specs.TimedBlock.{arcs_in, rows_of, brings}
 use Rattle.timing.specs.Lines.{front, Filled}
 use Rattle.timing.specs.Bringing.{AllReady}
+use Rattle.paths.proofs.Entering.{entered_sorted}
 use Rattle.timing.proofs.Crossed.{entering_on}
 use Rattle.timing.proofs.Passing.{arrive_full}
 use Rattle.timing.proofs.arrive.arrive.Goals as goal
@@ -30,5 +31,5 @@ bring_all-requires g c =
     let s = c.in_ok-count.ensures in
     record {
       ready = subst (λ (ks : List ℕ). AllReady (arcs_in c.args.block.now) c.args.firsts.now c.args.base ks) (sym c.arcs_at.ensures) c.requires.ready;
-      entering = entering_on m c.args.base 0 c.in_ok-count.count c.args.lines.now c.start_line.new.lines c.args.times.now c.start_line.new.times _ c.requires.entering s;
+      entering = entering_on m c.args.base 0 c.in_ok-count.count c.args.lines.now c.start_line.new.lines c.args.times.now c.start_line.new.times _ c.requires.entering s (entered_sorted (measured m) (started c.args.node (on_some m.row c.time_row-start.result)) [] tt);
     }

@@ -19,6 +19,7 @@ arrive-requires g c =
         room = omega (arith, a.fit);
         even = a.even;
         near = arrived_near m laws b c.by-heads.result c.by-heads.ensures.lists l.node (omega arith) l.firsts l.lines l.times l.base a;
+        sorted = tt;
       };
     }
 

@@ -1,4 +1,4 @@
-use Rattle.std.proofs.Common.{◌≡◌, ℕ, ◌+◌, ◌-◌, List, map, length, get_or, set, sym, ap, ◌∙◌, subst, arith, rules}
+use Rattle.std.proofs.Common.{◌≡◌, ℕ, ◌+◌, ◌-◌, List, map, get_or, set, sym, ap, ◌∙◌, subst, arith, rules}
 use Rattle.std.proofs.lemmas.List.{map-set}
 use Rattle.timing.specs.Measured.{measured}
 use Rattle.timing.specs.TimedBlock.{arcs_in, rows_of}
@@ -27,8 +27,8 @@ require-asked-requires g c =
     let firsts = c.args.firsts.now in
     let l = c.loop-i in
     record {
-      beyond = subst (λ (ks : List ℕ). AllBeyond (arcs_in b) firsts (length l.lines) ks) (sym c.requires.numbers)
-          (all_beyond m laws b firsts c.requires.firsts c.args.node l.lines (lines_count m laws b l.i l.lines l.required l.invariant.required));
+      beyond = subst (λ (ks : List ℕ). AllBeyond (arcs_in b) firsts l.lines ks) (sym c.requires.numbers)
+          (all_beyond m laws b firsts c.requires.firsts c.args.node l.lines l.invariant.required.arrived);
       within = subst (λ (ks : List ℕ). AllAskBeyond m.width m.row (arcs_in b) firsts l.lines l.required ks) (sym c.requires.numbers)
           (all_ask_beyond m laws b firsts c.requires.firsts c.args.node l.i l.lines l.required l.auto.i l.invariant.required);
     }

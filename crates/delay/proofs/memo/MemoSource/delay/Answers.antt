@@ -1,4 +1,4 @@
-use Rattle.std.proofs.Common.{◌≡◌, ◌%◌, ◌<◌, length, Ok, sym, ap, ◌∙◌, w32, to_z, of_z, rules}
+use Rattle.std.proofs.Common.{◌≡◌, ◌%◌, ◌<◌, length, None, Ok, sym, ap, ◌∙◌, w32, to_z, of_z, rules}
 use Rattle.std.proofs.lemmas.Int.{to_z-of_z}
 use Rattle.delay.specs.Memo.{memo_means, recalled, keep_at}
 use Rattle.delay.proofs.Memos.{still_keepable, sound_keepable, memo_same}
@@ -31,5 +31,5 @@ returns-in_ok-ticks-in-None g c =
           ∙ ap (λ kept. memo_means kept means) c.keep.ensures
           ∙ memo_same means arc _ e self.kept within c.in-None.is;
       level = c.delay-in-None.ensures.level;
-      kept = c.keep.ensures ∙ sym (ap (λ o. keep_at self.kept arc o (Ok (to_z w32 (of_z w32 t)))) c.in-None.is);
+      asked = (c.keep.ensures ∙ sym (ap (λ o. keep_at self.kept arc o (recalled o means arc)) c.in-None.is ∙ ap (λ e. keep_at self.kept arc None e) e), rw c.in-None.is c.delay-in-None.ensures.asked);
     }

@@ -5,7 +5,7 @@ use Rattle.reader.specs.Format.{scan}
 use Rattle.reader.specs.Loading.{Answers, loaded, reached}
 use Rattle.graph.specs.Block.{block_of}
 use Rattle.graph.specs.Computed.{line_step}
-use Rattle.graph.specs.Lines.{kind_of, placed, Loads}
+use Rattle.graph.specs.Lines.{kind_of, Loads}
 use Rattle.graph.proofs.Replayed.{loads_ok, loads_err, kept_of}
 use Rattle.graph.proofs.store.TimingGraph.load.Goals as goal
 
@@ -17,7 +17,7 @@ returns-in_err-run c =
     (subst (λ x. Answers (loaded line_step (file c.into.result) x) (reached line_step (file c.into.result).records x) c.run.result (block_of c.run.new.sink.graph)) c.on-loading.ensures c.run.ensures) in
     let p = err_from_is_err_and c.from_residual.result c.from_residual.ensures.1 in
     let refusal : c.from_residual.result ≡ Err c.in_err-run.field-0.0 = p.1 ∙ ap Err p.2 in
-    subst (λ r. Loads b (file (kind_of c.args.file)) (placed r) b) (sym refusal)
+    subst (λ r. Loads b (file (kind_of c.args.file)) r b) (sym refusal)
     (loads_err b (file (kind_of c.args.file)) _ c.run.result _ (kept_of c.args.self.now) c.in_err-run.was _ a)
 
 pub returns : goal.returns

@@ -1,6 +1,6 @@
 use Rattle.std.proofs.Common.{◌≡◌, ◌+ℤ◌, arith, w32, to_z, of_z}
 use Rattle.std.proofs.lemmas.Int.{ints}
-use Rattle.measure.specs.Bounds.{summed_some, summed_none}
+use Rattle.measure.proofs.Bounds.{summed_some, summed_none}
 use Rattle.measure.proofs.staged.StagedTicksMeasure.sum.Goals as goal
 
 pub returns-in_err-stages : goal.returns-in_err-stages

@@ -9,6 +9,7 @@ ask_line-requires g c =
     record {
       first_le_last = beyond.rising;
       last_in_bounds = beyond.stand;
+      sorted = beyond.sorted;
       asks_between = c.requires.within c.in_ok-arc.arc live;
       bounded = crossing_near g.M.Measure c.args.block.now g.met.M.Measure.laws c.args.number c.in_ok-arc.arc live c.crossing-crossing.result c.crossing-crossing.ensures;
     }

@@ -5,6 +5,9 @@ use Rattle.timing.specs.Requiring.{told, marks, as_list, pick}
 use Rattle.timing.proofs.Requiring.{asks_more}
 use Rattle.timing.proofs.require.AskedLines.require.Goals as goal
 
+pub ask_over-requires-clause-beyond : goal.ask_over-requires-clause-beyond
+ask_over-requires-clause-beyond g c = λ e live. c.requires.beyond c.loop-number.number-index e (omega arith) live
+
 pub loop-number-preserved : goal.loop-number-preserved
 loop-number-preserved g c =
     let m = g.M.Measure in

@@ -1,5 +1,5 @@
 use Rattle.std.proofs.Common.{true, false, [], ◌∷◌, get_or, sym, ap, ◌∙◌, arith}
-use Rattle.measure.specs.Bounds.{to_bounded}
+use Rattle.measure.proofs.Bounds.{to_bounded}
 use Rattle.timing.specs.Measured.{measured}
 use Rattle.sheet.specs.Lines.{past_line}
 use Rattle.timing.specs.Slacks.{slacks_of}
