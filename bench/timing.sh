@@ -6,7 +6,7 @@ set -e
 program=${1:-target/bin/bench_timing}
 out=$(mktemp -d)
 trap 'rm -rf "$out"' EXIT
-${CC:-gcc} -O3 -Wall -Wextra -o "$out/timing" bench/timing.c
+${CC:-gcc} -O3 -Wall -Wextra -o "$out/timing" bench/timing.c bench/blocks.c bench/passes.c
 "$out/timing" | sed 's/ ns, /\t/' >"$out/plain"
 "$program" time | sed 's/ ns, /\t/' >"$out/here"
 if [ "$(cut -f2 "$out/plain")" != "$(cut -f2 "$out/here")" ]; then

@@ -1,0 +1,5 @@
+use Rattle.door.proofs.Traced.{traced}
+use Rattle.door.proofs.in_early_staged_ticks.ripotyngue_trace_early_staged_ticks.Goals as goal
+
+pub returns : goal.returns
+returns c = traced c.args.node c.ranges.node c.trace.ensures

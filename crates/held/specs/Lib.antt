@@ -1,0 +1,5 @@
+pub mod Answers
+pub mod Held
+pub mod Readings
+pub mod Timings
+pub mod Measures
