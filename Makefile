@@ -1,10 +1,12 @@
 # make demo       prove and build the program, and time its built-in block
-# make test       the whole gate: every proof from nothing, every must-fail edit, every test, the program from outside
+# make test       the gate: every proof, every must-fail edit, the tests in Rattle, the header's text, the program from outside
 # make bench      the benchmarks, each beside a plain C version in the same run
-# make test-door  the static library from C: random scripts of calls, held against a second implementation in C
+# make test-door  the static library from C: an example with every call, and random scripts of calls, held against a
+#                 second implementation in C
 # make placer     a small placer in C and in Rust that moves cells by their slacks, through the static library
 
 CC = gcc
+CXX = g++
 CFLAGS = -O3 -Wall -Wextra
 
 .PHONY: demo test bench test-door placer clean
@@ -21,13 +23,20 @@ demo:
 test:
 	.ci/run
 
-test-door: target/door/scripts
+test-door: target/door/two_selectors target/door/scripts
+	$(CXX) -fsyntax-only -Wall -Wextra -Iinclude -x c++ include/ripotyngue.h
+	target/door/two_selectors
 	target/door/scripts
+
+SANITIZED = -O2 -g -Wall -Wextra -fsanitize=address,undefined -fno-sanitize-recover=all -Iinclude
+
+target/door/two_selectors: examples/door/two_selectors.c include/ripotyngue.h $(DOOR)
+	mkdir -p target/door
+	$(CC) $(SANITIZED) -o $@ examples/door/two_selectors.c $(DOOR)
 
 target/door/scripts: $(wildcard tests/door/*.c tests/door/*.h) include/ripotyngue.h $(DOOR)
 	mkdir -p target/door
-	$(CC) -O2 -g -Wall -Wextra -fsanitize=address,undefined -fno-sanitize-recover=all -Iinclude -o $@ \
-		$(filter %.c,$^) $(DOOR)
+	$(CC) $(SANITIZED) -o $@ $(filter %.c,$^) $(DOOR)
 
 placer: target/placer/placer_c $(DOOR)
 	cd examples/placer/rust && cargo build --release --offline --target-dir ../../../target/placer

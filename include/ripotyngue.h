@@ -1,8 +1,9 @@
 /* The timer for programs in C and C++: the static library that crates/door makes.
  *
  * Every call answers on all arguments: wrong numbers, tables of wrong lengths and memory in which no graph was made are
- * refused by a number (below, and docs/refusals.md), and nothing else happens then. What no call can see for itself is
- * the caller's to keep:
+ * refused by a number (below, and docs/refusals.md). A refused call changes nothing, but for a refused timing, which leaves
+ * blank tables, and a refused trace, which fills its list with 1,024. What no call can see for itself is the caller's to
+ * keep:
  *
  *  - a pointer is not null and is aligned for its type, and as many elements as the length beside it says lie there,
  *    which is so even where that length is 0;
@@ -49,7 +50,7 @@ enum {
     RIPOTYNGUE_FULL = 8,             /* all 1,024 arc numbers are taken */
     RIPOTYNGUE_NOT_LIVE = 9,         /* the arc is not live */
     RIPOTYNGUE_IN_SET = 10,          /* the arc to be dropped is in a false set */
-    RIPOTYNGUE_NO_PATH = 11,         /* no live path leads from the one node of a pair to the other */
+    RIPOTYNGUE_NO_PATH = 11,         /* no live arc lies on a path from the one node of a pair to the other */
     RIPOTYNGUE_NO_DELAY = 12,        /* a live arc has no delay: arc, cause and level say which and why */
     RIPOTYNGUE_DELAY_RANGE = 13,     /* a live arc's delay plus trim is out of range: arc says which */
     RIPOTYNGUE_WRONG_LENGTH = 14,    /* a table has the wrong length */

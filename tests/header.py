@@ -1,8 +1,9 @@
 #!/usr/bin/env python3
 """Compares include/ripotyngue.h with what the door exports: tests/header.py
 
-Reads each exported function of crates/door/src and each struct that crosses, and says where the header declares another
-function, another parameter, or another member. It ends with status 1 where it does. Its last line counts what agreed."""
+Reads each exported function of crates/door/src, each struct that crosses, the numbers of the refusals and the marks for
+none, and says where the header declares another function, another parameter, another member, or another number. It ends
+with status 1 where it does. Its last line counts what agreed."""
 import pathlib
 import re
 import sys
@@ -24,6 +25,35 @@ STRUCTS = {
     "TimingGraph": ("graph", "ripotyngue_private_graph"),
     "Line": ("sheet", "ripotyngue_line"),
     "NodeEntry": ("sheet", "ripotyngue_node"),
+}
+# each number of the header: the crate, and where its sources have it
+CONSTANTS = {
+    "NO_BYTES": ("reader", r"FileFault::NoBytes => (\d+)"),
+    "TOO_LONG": ("reader", r"FileFault::TooLong => (\d+)"),
+    "NAMES_LINE": ("reader", r"FileFault::NamesWrong => (\d+)"),
+    "VALUE_LINE": ("reader", r"FileFault::ValueWrong => (\d+)"),
+    "END_LINE": ("reader", r"FileFault::EndFollowed => (\d+)"),
+    "OUT_OF_RANGE": ("graph", r"Refusal::OutOfRange => (\d+)"),
+    "NOT_RISING": ("graph", r"Refusal::NotRising => (\d+)"),
+    "FULL": ("graph", r"Refusal::Full => (\d+)"),
+    "NOT_LIVE": ("graph", r"Refusal::NotLive => (\d+)"),
+    "IN_SET": ("graph", r"Refusal::InSet => (\d+)"),
+    "NO_PATH": ("graph", r"Refusal::NoPath => (\d+)"),
+    "NO_DELAY": ("timing", r"TimeRefusal::SourceFault\(_\) => (\d+)"),
+    "DELAY_RANGE": ("timing", r"TimeRefusal::OutOfRange\(_\) => (\d+)"),
+    "WRONG_LENGTH": ("timing", r"TimeRefusal::WrongLength => (\d+)"),
+    "TOO_FEW_LINES": ("timing", r"TimeRefusal::TooFewLines => (\d+)"),
+    "BROKEN_LINK": ("sheet", r"TraceRefusal::BrokenLink => (\d+)"),
+    "SHORT_LIST": ("sheet", r"TraceRefusal::ShortList => (\d+)"),
+    "NOT_MADE": ("held", r"const NOT_MADE: u8 = (\d+)"),
+    "TRIAL_OPEN": ("held", r"const TRIAL_OPEN: u8 = (\d+)"),
+    "NO_TRIAL": ("held", r"const NO_TRIAL: u8 = (\d+)"),
+    "NO_NODE": ("sheet", r"const BLANK: Line = Line \{[^}]* node: (\d+)"),
+    "NO_ARC": ("sheet", r"const BLANK: Line = Line \{[^}]* back_arc: (\d+)"),
+    "NO_LINE": ("sheet", r"const BLANK: Line = Line \{[^}]* back_line: (\d+)"),
+    "MOST_LINES": ("sheet", r"self\.lines\.len\(\) <= (\d+)"),
+    "NODES": ("graph", r"starts: \[TimeSlot; (\d+)\]"),
+    "ARCS": ("graph", r"arcs: \[ArcSlot; (\d+)\]"),
 }
 NUMBERS = {"u8": "uint8_t", "u16": "uint16_t", "u32": "uint32_t", "u64": "uint64_t", "i32": "int32_t", "bool": "bool"}
 
@@ -111,6 +141,17 @@ def defined(text):
     return structs
 
 
+def numbers():
+    """The header's numbers, as the crates have them. An accepted call answers 0."""
+    found = {"RIPOTYNGUE_ACCEPTED": "0"}
+    for name, (crate, where) in CONSTANTS.items():
+        number = re.search(where, sources(crate))
+        if not number:
+            sys.exit(f"tests/header.py: crates/{crate} does not say {name}")
+        found[f"RIPOTYNGUE_{name}"] = number[1]
+    return found
+
+
 def compare(what, wanted, given):
     for name in sorted(wanted.keys() | given.keys()):
         want, give = wanted.get(name), given.get(name)
@@ -122,8 +163,11 @@ def compare(what, wanted, given):
 def main():
     text = re.sub(r";\s*(?=ripotyngue_answer )", ";\n", header())
     functions = {name: [spaced(each) for each in kinds] for name, kinds in exported().items()}
+    if not functions:
+        sys.exit("tests/header.py: crates/door exports no function")
     agreed = compare("the function", functions, declared(text)) + compare("the struct", crossing(), defined(text))
-    print(f"{agreed} functions and structs agree")
+    agreed += compare("the number", numbers(), dict(re.findall(r"(RIPOTYNGUE_\w+) = (\d+)", text)))
+    print(f"{agreed} functions, structs and numbers agree")
 
 
 main()
