@@ -7,7 +7,7 @@ use Rattle.reader.specs.declared.records.Record.{Record}
 use Rattle.reader.specs.declared.records.Record.TheVariants.{Arc, Delay, Bound, Pair}
 use Rattle.reader.specs.declared.faults.FileRefusal.{FileRefusal}
 use Rattle.reader.specs.declared.faults.FileFault.TheVariants.{Call}
-use Rattle.reader.specs.Format.{scan}
+use Rattle.reader.specs.Format.{scanned}
 use Rattle.reader.specs.Loading.{Leaves, replay, loaded}
 use Rattle.delay.specs.declared.annotated.AnnotatedRow.{AnnotatedRow}
 use Rattle.delay.specs.DelayFiles.{is_delay, annotation, take_line, length_answer, Loads, Stands, LastLineStands, blank}
@@ -50,7 +50,7 @@ lines_stand_lem k (Pair a b c ∷ lines) ending l s t within e = absurd (refused
 
 module _ (bytes : List ℕ) (s t : List AnnotatedRow) (r : Result (Unit {0}) FileRefusal) where
   abbrev after_lines : Result (List AnnotatedRow) FileRefusal
-  after_lines = loaded take_line (scan Delays bytes) s
+  after_lines = loaded take_line (scanned Delays bytes) s
 
   pub loads_by : (x : Result (Unit {0}) FileRefusal) → x ≡ length_answer (length s) → Leaves (result_and x after_lines) s r t → Loads bytes s r t
   loads_by x e p = subst (λ y. Leaves (result_and y after_lines) s r t) e p
@@ -58,10 +58,10 @@ module _ (bytes : List ℕ) (s t : List AnnotatedRow) (r : Result (Unit {0}) Fil
   pub loads_stand : Loads bytes s r t → LastLineStands bytes s r t
   loads_stand p ok k small = at (eqb (length s) 1024) refl p
     where
-      taken : length s ≡ 1024 → (x : Result (List AnnotatedRow) FileRefusal) → after_lines ≡ x → Leaves x s r t → Stands k (scan Delays bytes).records (get_or s k blank) (get_or t k blank)
-      taken long (Ok m) e q = lines_stand_lem k (scan Delays bytes).records (scan Delays bytes).ending 2 s t (omega arith) (e ∙ ap Ok (sym q.1))
+      taken : length s ≡ 1024 → (x : Result (List AnnotatedRow) FileRefusal) → after_lines ≡ x → Leaves x s r t → Stands k (scanned Delays bytes).records (get_or s k blank) (get_or t k blank)
+      taken long (Ok m) e q = lines_stand_lem k (scanned Delays bytes).records (scanned Delays bytes).ending 2 s t (omega arith) (e ∙ ap Ok (sym q.1))
       taken long (Err x) e q = absurd (refused (sym q.0 ∙ ok))
 
-      at : (b : Bool) → eqb (length s) 1024 ≡ b → Leaves (result_and {T = Unit {0}} (cond b (Ok tt) (Err (record { fault = Call 14; line = 0 }))) after_lines) s r t → Stands k (scan Delays bytes).records (get_or s k blank) (get_or t k blank)
+      at : (b : Bool) → eqb (length s) 1024 ≡ b → Leaves (result_and {T = Unit {0}} (cond b (Ok tt) (Err (record { fault = Call 14; line = 0 }))) after_lines) s r t → Stands k (scanned Delays bytes).records (get_or s k blank) (get_or t k blank)
       at true h q = taken (eqb-true (length s) 1024 h) after_lines refl q
       at false h q = absurd (refused (sym q.0 ∙ ok))

@@ -7,7 +7,7 @@ use Rattle.reader.specs.declared.records.Record.{Record}
 use Rattle.reader.specs.declared.records.Record.TheVariants.{Arc, Delay, Bound, Pair}
 use Rattle.reader.specs.declared.faults.FileRefusal.{FileRefusal}
 use Rattle.reader.specs.declared.faults.FileFault.TheVariants.{Call}
-use Rattle.reader.specs.Format.{scan}
+use Rattle.reader.specs.Format.{scanned}
 use Rattle.reader.specs.Loading.{Leaves, loaded}
 use Rattle.delay.specs.declared.annotated.AnnotatedRow.{AnnotatedRow}
 use Rattle.delay.specs.Entries.{is_tick_count}
@@ -36,7 +36,7 @@ length_answer rows = cond (rows == 1024) (Ok tt) (Err (record { fault = Call 14;
 
 -- the table s after the file's lines, or the first refusal
 abbrev pub loaded_table : List ℕ → List AnnotatedRow → Result (List AnnotatedRow) FileRefusal
-loaded_table bytes s = result_and (length_answer (length s)) (loaded take_line (scan Delays bytes) s)
+loaded_table bytes s = result_and (length_answer (length s)) (loaded take_line (scanned Delays bytes) s)
 
 -- a load answers r and makes t of the table s: all lines or none
 abbrev pub Loads : List ℕ → List AnnotatedRow → Result (Unit {0}) FileRefusal → List AnnotatedRow → Type 0
@@ -64,4 +64,4 @@ blank = record { marked = false; ticks = pos 0 }
 
 -- so it is of each row once a file is accepted
 abbrev pub LastLineStands : List ℕ → List AnnotatedRow → Result (Unit {0}) FileRefusal → List AnnotatedRow → Type 0
-LastLineStands bytes s r t = r ≡ Ok tt → (k : ℕ) → k < 1024 → Stands k (scan Delays bytes).records (slice_index_or s k blank) (slice_index_or t k blank)
+LastLineStands bytes s r t = r ≡ Ok tt → (k : ℕ) → k < 1024 → Stands k (scanned Delays bytes).records (slice_index_or s k blank) (slice_index_or t k blank)

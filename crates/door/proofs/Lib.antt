@@ -1,1 +1,1 @@
-mod Traced
+mod Numbers

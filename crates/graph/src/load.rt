@@ -1,6 +1,6 @@
 // Loads: the calls of a file's lines, all or none.
 ghost use Rattle.std.specs.Prelude.{◌≡◌};
-ghost use Rattle.reader.specs.Format.{scan};
+ghost use Rattle.reader.specs.Format.{scanned};
 ghost use Rattle.reader.specs.Loading.{Leaves};
 ghost use Rattle.graph.specs.Refusals.{numbered, refusal_number};
 ghost use Rattle.graph.specs.Block.{Block, block_of, verdict, with_arc};
@@ -104,7 +104,7 @@ impl Sink for Loading {
 impl TimingGraph {
     // Makes the calls of a file's lines in order, all or none.
     pub fn load(&mut self, file: GraphFile, bytes: &[u8]) -> Result<(), FileRefusal>
-        ensures { Loads (block_of self.old) (scan (kind_of file) bytes.now) result (block_of self.new) }
+        ensures { Loads (block_of self.old) (scanned (kind_of file) bytes.now) result (block_of self.new) }
     {
         let mut loading = Loading::on(self);
         run(file.into(), bytes, &mut loading)?;

@@ -2,7 +2,7 @@
 ghost use Rattle.std.specs.Prelude.{◌≡◌};
 ghost use Rattle.graph.specs.Refusals.{numbered};
 ghost use Rattle.graph.specs.Block.{block_of};
-ghost use Rattle.graph.specs.Index.{KeyedBoth};
+ghost use Rattle.graph.specs.Index.{IndexesBoth};
 ghost use Rattle.graph.specs.Sets.{with_cleared};
 ghost use Rattle.graph.specs.Pair.{Paired};
 
@@ -21,7 +21,7 @@ impl TimingGraph {
         from: i32,
         to: i32,
     ) -> Result<(), Refusal>
-        requires { KeyedBoth (block_of self.old).arcs indexes.now }
+        requires { IndexesBoth (block_of self.old).arcs indexes.now }
         ensures { Paired (block_of self.old) set from to (numbered result) (block_of self.new) }
     {
         let set = set_of(set)?;

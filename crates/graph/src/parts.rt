@@ -105,7 +105,8 @@ impl fmt::Display for Refusal {
             Refusal::Full => "all 1024 arc numbers are taken",
             Refusal::NotLive => "the arc is not live",
             Refusal::InSet => "the arc is in a false set",
-            Refusal::NoPath => "no live path leads from the one node to the other",
+            Refusal::NoPath =>
+                "no path of one or more live arcs leads from the first node to the second",
         };
         f.write_str(words)
     }

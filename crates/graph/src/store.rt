@@ -2,7 +2,7 @@
 ghost use Rattle.std.specs.Prelude.{◌≤◌};
 ghost use Rattle.graph.specs.Kept.{Numbered, Rising, NodesInRange, TrimsInRange, TimesInRange};
 ghost use Rattle.graph.specs.Slots.{arcs_of, times_of};
-ghost use Rattle.graph.specs.Sorting.{Keys, Stops, Segments};
+ghost use Rattle.graph.specs.Sorting.{Parted};
 
 use crate::parts::{ArcSlot, TimeSlot};
 
@@ -23,21 +23,12 @@ pub struct TimingGraph {
     ghost ended: { TimesInRange (times_of ends) },
 }
 
-// A key for each place: the nodes 0 to 255, and 256 for a number that is not live.
-#[derive(Clone, Copy)]
-pub(crate) struct SortKeys {
-    pub(crate) keys: [u16; 1024],
-    ghost below: { Keys keys },
-}
-
 // Arc numbers sorted by the node at one end: `order` has a segment for each node, `ends` where it ends.
 #[derive(Drop)]
 pub struct ArcIndex {
-    pub(crate) keys: SortKeys,
     pub(crate) ends: [u16; 257],
     pub(crate) order: [u16; 1024],
-    ghost stops: { Stops keys.keys ends },
-    ghost segments: { Segments keys.keys order },
+    ghost parted: { Parted ends },
 }
 
 // The live arcs by their tails and by their heads.

@@ -2,7 +2,7 @@
 ghost use Rattle.std.specs.Prelude.{◌≡◌, ℕ, true, false, length, replicate, slice_index_or, slice_set};
 ghost use Rattle.graph.specs.Slots.{arcs_of};
 ghost use Rattle.graph.specs.Kept.{Rising};
-ghost use Rattle.graph.specs.Index.{Keyed};
+ghost use Rattle.graph.specs.Index.{Indexes};
 ghost use Rattle.graph.specs.Sweeps.{far_at, Visited, Reaches};
 
 use crate::order::nth_from;
@@ -28,7 +28,7 @@ fn far_node(arc: LiveArc, end: ArcEnd) -> u8
 
 // Marks the far node of each arc that has the node at the index's end, if the node is marked.
 fn visit(arcs: &[ArcSlot], index: &ArcIndex, end: ArcEnd, node: u8, seen: &mut [bool; 256])
-    requires { Keyed end (arcs_of arcs.now) index.now }
+    requires { Indexes end (arcs_of arcs.now) index.now }
     ensures { Visited end (arcs_of arcs.now) node seen.old seen.new }
 {
     if !seen[node as usize] {
@@ -43,7 +43,7 @@ fn visit(arcs: &[ArcSlot], index: &ArcIndex, end: ArcEnd, node: u8, seen: &mut [
 // The nodes that paths from the node lead to, or, by the heads, those that paths to it come from.
 pub(crate) fn sweep(arcs: &[ArcSlot], index: &ArcIndex, end: ArcEnd, node: u8) -> [bool; 256]
     requires rising { Rising (arcs_of arcs.now) }
-    requires indexed { Keyed end (arcs_of arcs.now) index.now }
+    requires indexed { Indexes end (arcs_of arcs.now) index.now }
     ensures sound { (v : ℕ) → slice_index_or result v false ≡ true → Reaches end (arcs_of arcs.now) node v }
     ensures all { (v : ℕ) → Reaches end (arcs_of arcs.now) node v → slice_index_or result v false ≡ true }
 {

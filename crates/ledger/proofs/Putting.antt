@@ -9,7 +9,7 @@ use Rattle.reader.specs.declared.records.Record.TheVariants as line
 use Rattle.reader.specs.declared.faults.FileRefusal.{FileRefusal}
 use Rattle.reader.specs.declared.faults.FileFault.TheVariants.{Call as Turned}
 use Rattle.reader.specs.Files.{Fitting, AcceptedGood}
-use Rattle.reader.specs.Format.{Scan, scan}
+use Rattle.reader.specs.Format.{Scan, scanned}
 use Rattle.reader.specs.Loading.{Leaves}
 use Rattle.graph.specs.declared.parts.GraphFile.TheVariants.{Arcs, Bounds, FalseSets}
 use Rattle.graph.specs.Block.{Block, Kept, blank}
@@ -140,14 +140,14 @@ load_refused b c a b' s n e q h = still b c a b' s n (subst (SameSets b) (sym q)
 
 module _ (good : AcceptedGood) where
   -- a load whose file has no pair line
-  same_load : (b : Block) (k : _) (bs : List ℕ) (r : Result Unit FileRefusal) (b' : Block) → Kept b → ((x : Record) → Fitting k x → NoPair x) → Loads b (scan k bs) r b' → SameSets b b'
+  same_load : (b : Block) (k : _) (bs : List ℕ) (r : Result Unit FileRefusal) (b' : Block) → Kept b → ((x : Record) → Fitting k x → NoPair x) → Loads b (scanned k bs) r b' → SameSets b b'
   same_load b k bs r b' kept none p = by p.0 p.1 p.2
     where
-      by : (w : Result Block FileRefusal) → Lines b (scan k bs).records (scan k bs).ending 2 w → Leaves w b r b' → SameSets b b'
+      by : (w : Result Block FileRefusal) → Lines b (scanned k bs).records (scanned k bs).ending 2 w → Leaves w b r b' → SameSets b b'
       by (Err e) h q = subst (SameSets b) (sym q.1) (same_sets b)
       by (Ok m) h q =
-          let fits = (good k bs (ending_none b (scan k bs).records (scan k bs).ending 2 m h)).fitting in
-          subst (SameSets b) (sym q.1) (same_lines b (scan k bs).records (scan k bs).ending 2 m kept (All-weaker (Fitting k) NoPair none (scan k bs).records fits) h)
+          let fits = (good k bs (ending_none b (scanned k bs).records (scanned k bs).ending 2 m h)).fitting in
+          subst (SameSets b) (sym q.1) (same_lines b (scanned k bs).records (scanned k bs).ending 2 m kept (All-weaker (Fitting k) NoPair none (scanned k bs).records fits) h)
 
   call_moves : (b : Block) (c : Call) (a : Answer) (b' : Block) (s n : ℕ) → s < 16 → Kept b → Calls b c a b' → Moves b c a b' s n
   call_moves b (AddArc u v) a b' s n ls k p = still b (AddArc u v) a b' s n (subst (SameSets b) (sym p.1) (same_arc b u v k)) (λ w. w.3)
@@ -176,7 +176,7 @@ module _ (good : AcceptedGood) where
   call_moves b (Load FalseSets bytes) a b' s n ls k p = by p.2.0 p.2.1 p.0 p.1 p.2.2
     where
       file : Scan
-      file = scan kind.FalseSets bytes.now
+      file = scanned kind.FalseSets bytes.now
 
       by : (w : Result Block FileRefusal) → Lines b file.records file.ending 2 w → (r : Result Unit FileRefusal) → a ≡ load_answer r → Leaves w b r b'
           → Moves b (Load FalseSets bytes) a b' s n

@@ -5,7 +5,7 @@ use Rattle.reader.specs.declared.records.Record.{Record}
 use Rattle.reader.specs.declared.records.Record.TheVariants as line
 use Rattle.reader.specs.declared.faults.FileRefusal.{FileRefusal}
 use Rattle.reader.specs.declared.faults.FileFault.TheVariants.{Call as Turned}
-use Rattle.reader.specs.Format.{Scan, scan}
+use Rattle.reader.specs.Format.{Scan, scanned}
 use Rattle.reader.specs.Loading.{Leaves}
 use Rattle.graph.specs.Block.{Block}
 use Rattle.graph.specs.Lines.{Line, Lines, Loads, kind_of}
@@ -67,7 +67,7 @@ calls_same b (Pair s u v) a a' m m' p q =
     let h = paired_same b s u v p.0 q.0 m m' p.2 q.2 in (p.1 ∙ ap call_answer h.0 ∙ sym q.1, h.1)
 calls_same b (Clear _) a a' m m' p q = both _ _ _ _ _ _ p q
 calls_same b (Load file bytes) a a' m m' p q =
-    let h = loads_same b (scan (kind_of file) bytes.now) p.0 q.0 m m' p.2 q.2 in (p.1 ∙ ap load_answer h.0 ∙ sym q.1, h.1)
+    let h = loads_same b (scanned (kind_of file) bytes.now) p.0 q.0 m m' p.2 q.2 in (p.1 ∙ ap load_answer h.0 ∙ sym q.1, h.1)
 
 acts_same : (l : Ledger) (x : Act) (a a' : Answer) (m m' : Ledger) → Acts l x a m → Acts l x a' m' → Same a a' m m'
 acts_same l (Make c) a a' m m' p q =

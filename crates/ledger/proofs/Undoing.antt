@@ -3,7 +3,7 @@ use Rattle.std.proofs.Common.{◌≡◌, ℕ, suc, ◌+◌, List, [], ◌∷◌,
 use Rattle.reader.specs.declared.records.Record.{Record}
 use Rattle.reader.specs.declared.faults.FileRefusal.{FileRefusal}
 use Rattle.reader.specs.declared.faults.FileFault.TheVariants.{Call as Turned}
-use Rattle.reader.specs.Format.{Scan, scan}
+use Rattle.reader.specs.Format.{Scan, scanned}
 use Rattle.reader.specs.Loading.{Leaves}
 use Rattle.graph.specs.Block.{Block, Kept, blank, with_trim}
 use Rattle.graph.specs.Trials as trials
@@ -53,7 +53,7 @@ kept_calls b (SetEnd v t) a b' k s = subst Kept (sym s.1) (kept_end b v t k)
 kept_calls b (SetTrim n t) a b' k s = subst Kept (sym s.1) (kept_trim b n t k)
 kept_calls b (Pair g u v) a b' k s = kept_paired b g u v s.0 b' k s.2
 kept_calls b (Clear g) a b' k s = subst Kept (sym s.1) (kept_clear b g k)
-kept_calls b (Load file bytes) a b' k s = kept_loads b (scan (kind_of file) bytes.now) s.0 b' k s.2
+kept_calls b (Load file bytes) a b' k s = kept_loads b (scanned (kind_of file) bytes.now) s.0 b' k s.2
 
 kept_back : (b : Block) (t : Trying) → Kept b → Kept (put_back b t)
 kept_back b no_trial k = k

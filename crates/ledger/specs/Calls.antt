@@ -1,7 +1,7 @@
 -- What each call answers, and what it makes of a ledger's block.
 use Rattle.std.specs.Prelude.{◌≡◌, ℕ, Result}
 use Rattle.reader.specs.declared.faults.FileRefusal.{FileRefusal}
-use Rattle.reader.specs.Format.{scan}
+use Rattle.reader.specs.Format.{scanned}
 use Rattle.graph.specs.Block.{Block, Outcome, with_arc, without_arc, with_start, with_end, with_trim}
 use Rattle.graph.specs.Sets.{with_cleared}
 use Rattle.graph.specs.Pair.{Paired}
@@ -22,4 +22,4 @@ Calls b (SetEnd node ticks) a b' = Gives call_answer (with_end b node ticks) a b
 Calls b (SetTrim arc ticks) a b' = Gives call_answer (with_trim b arc ticks) a b'
 Calls b (Pair set from to) a b' = (r : Result Unit ℕ) × (a ≡ call_answer r) × Paired b set from to r b'
 Calls b (Clear set) a b' = Gives call_answer (with_cleared b set) a b'
-Calls b (Load file bytes) a b' = (r : Result Unit FileRefusal) × (a ≡ load_answer r) × Loads b (scan (kind_of file) bytes.now) r b'
+Calls b (Load file bytes) a b' = (r : Result Unit FileRefusal) × (a ≡ load_answer r) × Loads b (scanned (kind_of file) bytes.now) r b'

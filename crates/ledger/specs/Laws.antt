@@ -3,7 +3,7 @@ use Rattle.std.specs.Prelude.{◌≡◌, ℕ, ◌<◌, true, ◌⊎◌, List, []
 use Rattle.reader.specs.declared.records.Record.{Record}
 use Rattle.reader.specs.declared.records.Record.TheVariants as line
 use Rattle.reader.specs.declared.records.Kind.TheVariants as kind
-use Rattle.reader.specs.Format.{scan}
+use Rattle.reader.specs.Format.{scanned}
 use Rattle.graph.specs.declared.parts.LiveArc.{LiveArc}
 use Rattle.graph.specs.declared.parts.GraphFile.TheVariants.{Arcs, Bounds, FalseSets}
 use Rattle.graph.specs.Kept.{Live}
@@ -41,7 +41,7 @@ PairLine (x ∷ xs) s from to = (x ≡ line.Pair (pos s) (pos from) (pos to)) �
 -- the call makes the pair (s, from, to): by itself, or by a line of a false-set file
 abbrev pub Pairs : Call → ℕ → ℕ → ℕ → Type 0
 Pairs (Pair set from to) s u v = (set ≡ pos s) × (from ≡ pos u) × (to ≡ pos v)
-Pairs (Load FalseSets bytes) s u v = PairLine (scan kind.FalseSets bytes.now).records s u v
+Pairs (Load FalseSets bytes) s u v = PairLine (scanned kind.FalseSets bytes.now).records s u v
 Pairs (Load Arcs bytes) s u v = ⊥
 Pairs (Load Bounds bytes) s u v = ⊥
 Pairs (AddArc from to) s u v = ⊥

@@ -3,7 +3,7 @@ use Rattle.std.proofs.Common.{◌≡◌, ℕ, T, List, [], ◌∷◌, map, is_ok
 use Rattle.std.specs.Result.{result_unwrap_or}
 use Rattle.reader.specs.declared.faults.FileRefusal.{FileRefusal}
 use Rattle.reader.specs.Faults.{number_of}
-use Rattle.reader.specs.Format.{Scan, scan}
+use Rattle.reader.specs.Format.{Scan, scanned}
 use Rattle.reader.specs.Loading.{loaded}
 use Rattle.measure.specs.Laws.{Laws}
 use Rattle.measure.specs.Rows.{Row}
@@ -41,7 +41,7 @@ calls_are_computed_lem g k (SetTrim n t) = (refl, refl)
 calls_are_computed_lem g k (Pair s u v) = ((with_pair g s u v).answer, refl, with_pair_holds g s u v k.rising)
 calls_are_computed_lem g k (Clear s) = (refl, refl)
 calls_are_computed_lem g k (Load file bytes) =
-    let f = scan (kind_of file) bytes.now in load_holds g f (loaded line_step f g) (lines_replay g f.records f.ending 2 k)
+    let f = scanned (kind_of file) bytes.now in load_holds g f (loaded line_step f g) (lines_replay g f.records f.ending 2 k)
 
 pub call_acts : (g : Block) → Kept g → (c : Call) → Acts (closed g) (Make c) (called g c).answer (closed (called g c).after)
 call_acts g k c = (refl, refl, calls_are_computed_lem g k c)

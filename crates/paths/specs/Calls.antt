@@ -2,7 +2,7 @@
 use Rattle.std.specs.Prelude.{ℕ, List, [], ◌∷◌, Ok, Err, Result}
 use Rattle.reader.specs.declared.faults.FileRefusal.{FileRefusal}
 use Rattle.reader.specs.Faults.{number_of}
-use Rattle.reader.specs.Format.{scan}
+use Rattle.reader.specs.Format.{scanned}
 use Rattle.reader.specs.Loading.{loaded}
 use Rattle.graph.specs.Block.{Block, Kept, Outcome, with_arc, without_arc, with_start, with_end, with_trim}
 use Rattle.graph.specs.Sets.{with_cleared}
@@ -33,7 +33,7 @@ called g (SetEnd v t) = turn call_answer (with_end g v t)
 called g (SetTrim n t) = turn call_answer (with_trim g n t)
 called g (Pair s u v) = turn call_answer (with_pair g s u v)
 called g (Clear s) = turn call_answer (with_cleared g s)
-called g (Load file bytes) = load_turn g (loaded line_step (scan (kind_of file) bytes.now) g)
+called g (Load file bytes) = load_turn g (loaded line_step (scanned (kind_of file) bytes.now) g)
 
 -- the content after an accepted call, or the number of the refusal
 abbrev pub accepted : Answer → Block → Result Block ℕ

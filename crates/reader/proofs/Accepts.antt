@@ -13,7 +13,7 @@ use Rattle.reader.specs.declared.records.Record.{Record}
 use Rattle.reader.specs.declared.records.Record.TheVariants.{Arc, Delay, Bound, Pair}
 use Rattle.reader.specs.declared.faults.FileFault.TheVariants.{NoBytes, TooLong}
 use Rattle.reader.specs.Files.{line_of, letter_of, texts, Fitting, Line, Lines, Good}
-use Rattle.reader.specs.Format.{Scan, both, three, number_in, side_in, record_from, text_of, record_of, is_end, first_is_end, closes, count_is, none, end_line, value_line, body, headed, file, scan, stop, complete}
+use Rattle.reader.specs.Format.{Scan, both, three, number_in, side_in, record_from, text_of, record_of, is_end, first_is_end, closes, count_is, none, end_line, value_line, body, headed, file, scanned, stop, complete}
 use Rattle.reader.specs.Layouts.{Entry, layouts}
 use Rattle.reader.specs.Names.{chosen}
 use Rattle.reader.specs.Numbers.{number}
@@ -216,7 +216,7 @@ sized_way k bs true t s f h = absurd (some_none _ h)
 sized_way k bs false true s f h = absurd (some_none _ h)
 sized_way k bs false false s f h = f h
 
-pub accepted_good : (k : Kind) (bs : List ℕ) → (scan k bs).ending ≡ None → Good k (scan k bs).records bs
+pub accepted_good : (k : Kind) (bs : List ℕ) → (scanned k bs).ending ≡ None → Good k (scanned k bs).records bs
 accepted_good k bs h =
     let small = ltb-false 60000 (length bs) (sized k bs h).0 in
     sized_way k bs (eqb (length bs) 0) (ltb 60000 (length bs)) (file k (pieces 10 bs)) (file_good k (pieces 10 bs) bs (sym (rejoined 10 bs)) small) h

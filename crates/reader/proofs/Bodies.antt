@@ -7,7 +7,7 @@ use Rattle.reader.specs.declared.records.Record.{Record}
 use Rattle.reader.specs.declared.lines.Cursor.{Cursor}
 use Rattle.reader.specs.declared.reading.Reader.{Reader}
 use Rattle.reader.specs.declared.faults.FileFault.TheVariants.{ValueWrong, EndWrong, EndFollowed}
-use Rattle.reader.specs.Format.{body, headed, file, scan, record_of, value_line, end_line, is_end, closes, none, stop, after, complete}
+use Rattle.reader.specs.Format.{body, headed, file, scanned, record_of, value_line, end_line, is_end, closes, none, stop, after, complete}
 use Rattle.reader.specs.Layouts.{Entry, entry, layouts}
 use Rattle.reader.specs.Names.{chosen}
 use Rattle.reader.specs.Pieces.{pieces}
@@ -96,6 +96,6 @@ module _ (a : Reader) (b : Cursor) (p : List ℕ) (m : ℕ) (cut : pieces 10 a.c
   reads_followed = on_followed kind (entry a.layout) names a.cursor.line m a.cursor.rest.now p b.rest.now cut next
 
 -- a file of the right size, of which a cursor that began at its front has handed out the line p
-pub opens : (k : Kind) (bs : List ℕ) (a b : Cursor) (p : List ℕ) → scan k bs ≡ file k (pieces 10 bs) → a.rest.now ≡ bs → pieces 10 a.rest.now ≡ p ∷ pieces 10 b.rest.now
-    → scan k bs ≡ headed k (chosen (layouts k) (pieces 44 p)) (pieces 44 p) (pieces 10 b.rest.now)
+pub opens : (k : Kind) (bs : List ℕ) (a b : Cursor) (p : List ℕ) → scanned k bs ≡ file k (pieces 10 bs) → a.rest.now ≡ bs → pieces 10 a.rest.now ≡ p ∷ pieces 10 b.rest.now
+    → scanned k bs ≡ headed k (chosen (layouts k) (pieces 44 p)) (pieces 44 p) (pieces 10 b.rest.now)
 opens k bs a b p sized from cut = sized ∙ ap (λ cs. file k (pieces 10 cs)) (sym from) ∙ on_names k a.rest.now p b.rest.now cut

@@ -7,10 +7,9 @@ use Rattle.std.specs.Str.{bytes_eq}
 use Rattle.std.proofs.lemmas.Slice.Eq.{bytes_eq-Decides}
 use Rattle.std.proofs.lemmas.List.Sorted.{IsPermutation-refl, IsPermutation-sym, IsPermutation-cons, IsPermutation-swap, IsPermutation-trans, length_permutation}
 use Rattle.std.proofs.ByRecursion.{all_shuffled, All-weaker}
-use Rattle.std.proofs.lemmas.Bool.{and_parts, and_from, eq-eqb, eqb-true}
+use Rattle.std.proofs.lemmas.Bool.{and_parts, and_from, eq-eqb, eqb-true, or_right}
 use Rattle.reader.specs.Layouts.{Entry}
 use Rattle.reader.specs.Names.{among, is_order, chosen, place}
-use Rattle.reader.proofs.Digits.{or_right}
 
 abbrev pub Among : List ℕ → List (List ℕ) → Type 0
 Among q [] = ⊥

@@ -4,7 +4,7 @@ use Rattle.reader.specs.declared.records.Kind.{Kind}
 use Rattle.reader.specs.declared.records.Record.{Record}
 use Rattle.reader.specs.declared.faults.FileFault.{FileFault}
 use Rattle.reader.specs.declared.faults.FileFault.TheVariants.{NoBytes, TooLong, EndWrong, EndFollowed}
-use Rattle.reader.specs.Format.{Scan, body, headed, file, scan, record_of, value_line, end_line, is_end, closes, none, stop, after, complete}
+use Rattle.reader.specs.Format.{Scan, body, headed, file, scanned, record_of, value_line, end_line, is_end, closes, none, stop, after, complete}
 use Rattle.reader.specs.Layouts.{Entry, layouts}
 use Rattle.reader.specs.Names.{chosen}
 use Rattle.reader.specs.Pieces.{pieces}
@@ -98,7 +98,7 @@ file_once k (p ∷ q ∷ ps) qs some n h more =
     let second = subst (λ s. s.ending ≡ None) (told ∙ ap (λ w. headed k w (pieces 44 p) (glue (q ∷ ps) qs)) first.1.0) more in
     ends_once k first.0 (pieces 44 p) 1 (q ∷ ps) qs some n first.1.1 second
 
-pub sized : (k : Kind) (bs : List ℕ) → (scan k bs).ending ≡ None → (ltb 60000 (length bs) ≡ false) × ((file k (pieces 10 bs)).ending ≡ None)
+pub sized : (k : Kind) (bs : List ℕ) → (scanned k bs).ending ≡ None → (ltb 60000 (length bs) ≡ false) × ((file k (pieces 10 bs)).ending ≡ None)
 sized k bs h = go (eqb (length bs) 0) (ltb 60000 (length bs)) (file k (pieces 10 bs)) h
   where
     go : (e t : Bool) (A : Scan) → (cond e (stop NoBytes 0) (cond t (stop TooLong 0) A)).ending ≡ None → (t ≡ false) × (A.ending ≡ None)
@@ -107,7 +107,7 @@ sized k bs h = go (eqb (length bs) 0) (ltb 60000 (length bs)) (file k (pieces 10
     go false false A x = (refl, x)
 
 -- a complete file with bytes after it is not complete
-pub followed : (k : Kind) (bs : List ℕ) (b : ℕ) (more : List ℕ) → (scan k bs).ending ≡ None → (scan k (bs ++ (b ∷ more))).ending ≡ None → ⊥
+pub followed : (k : Kind) (bs : List ℕ) (b : ℕ) (more : List ℕ) → (scanned k bs).ending ≡ None → (scanned k (bs ++ (b ∷ more))).ending ≡ None → ⊥
 followed k bs b more h after =
     file_once k (pieces 10 bs) (pieces 10 (b ∷ more)) (some_piece 10 (b ∷ more)) (none_left 10 (b ∷ more) ∙ ne_eqb (suc (length more)) 0 (λ e. omega arith))
     (sized k bs h).1 (subst (λ ps. (file k ps).ending ≡ None) (pieces_append 10 bs (b ∷ more)) (sized k (bs ++ (b ∷ more)) after).1)

@@ -15,7 +15,7 @@ use Rattle.reader.specs.declared.records.Record.{Record}
 use Rattle.reader.specs.declared.records.Record.TheVariants.{Arc, Delay, Bound, Pair}
 use Rattle.reader.specs.declared.faults.FileFault.TheVariants.{NoBytes, TooLong}
 use Rattle.reader.specs.Files.{line_of, letter_of, texts, kind_of, numbers_of, Fitting, Line, Lines, Good}
-use Rattle.reader.specs.Format.{both, three, number_in, side_in, record_from, record_of, text_of, first_is_end, closes, count_is, body, headed, file, scan, refused}
+use Rattle.reader.specs.Format.{both, three, number_in, side_in, record_from, record_of, text_of, first_is_end, closes, count_is, body, headed, file, scanned, refused}
 use Rattle.reader.specs.Layouts.{Entry, layouts, arity}
 use Rattle.reader.specs.Names.{chosen, lookup}
 use Rattle.reader.specs.Records.{letter_side}
@@ -210,7 +210,7 @@ as_many e ns [] (fs ∷ fss) h = absurd h
 as_many e ns (r ∷ rs) [] h = absurd h
 as_many e ns (r ∷ rs) (fs ∷ fss) h = ap suc (as_many e ns rs fss h.1)
 
-pub good_accepted : (k : Kind) (rs : List Record) (bs : List ℕ) → Good k rs bs → scan k bs ≡ record { records = rs; ending = None }
+pub good_accepted : (k : Kind) (rs : List Record) (bs : List ℕ) → Good k rs bs → scanned k bs ≡ record { records = rs; ending = None }
 good_accepted k rs bs good =
     let e = good.entry in
     let cs = e.columns in
@@ -218,7 +218,7 @@ good_accepted k rs bs good =
     accepted good.names (all_shuffled Plain cs good.names good.order sound.plain) (order_from cs good.names sound.distinct (order_is cs good.names good.order)).1 sound
     (all_shuffled _ cs good.names good.order sound.onto) (omega (arith, length_permutation cs good.names good.order, sound.some)) refl
   where
-    accepted : (ns : List (List ℕ)) → AllByRecursion Plain ns → Distinct ns → Sound k good.entry → AllByRecursion (λ n. (i : ℕ) × ((i < arity k) × (value_name good.entry i ≡ n))) ns → 0 < length ns → ns ≡ good.names → scan k bs ≡ record { records = rs; ending = None }
+    accepted : (ns : List (List ℕ)) → AllByRecursion Plain ns → Distinct ns → Sound k good.entry → AllByRecursion (λ n. (i : ℕ) × ((i < arity k) × (value_name good.entry i ≡ n))) ns → 0 < length ns → ns ≡ good.names → scanned k bs ≡ record { records = rs; ending = None }
     accepted [] plain distinct sound onto some is = absurd (omega arith)
     accepted (n ∷ ns) plain distinct sound onto some is =
         let e = good.entry in
@@ -239,15 +239,15 @@ good_accepted k rs bs good =
 pub one_reading : (k : Kind) (rs ss : List Record) (bs : List ℕ) → Good k rs bs → Good k ss bs → rs ≡ ss
 one_reading k rs ss bs a b = ap (λ s. s.records) (sym (good_accepted k rs bs a) ∙ good_accepted k ss bs b)
 
-nonempty : (k : Kind) (bs more : List ℕ) → (scan k bs).ending ≡ None → (scan k (bs ++ more)).ending ≡ None → 0 < length more → ⊥
+nonempty : (k : Kind) (bs more : List ℕ) → (scanned k bs).ending ≡ None → (scanned k (bs ++ more)).ending ≡ None → 0 < length more → ⊥
 nonempty k bs [] h j l = omega arith
 nonempty k bs (b ∷ more) h j l = followed k bs b more h j
 
-pub prefix_refused : (k : Kind) (rs : List Record) (bs : List ℕ) (i : ℕ) → Good k rs bs → i < length bs → (scan k (take i bs)).ending ≡ None → ⊥
+pub prefix_refused : (k : Kind) (rs : List Record) (bs : List ℕ) (i : ℕ) → Good k rs bs → i < length bs → (scanned k (take i bs)).ending ≡ None → ⊥
 prefix_refused k rs bs i good l h =
-    nonempty k (take i bs) (drop i bs) h (ap (λ b. (scan k b).ending) (take-append-drop i bs) ∙ ap (λ s. s.ending) (good_accepted k rs bs good)) (simp length-drop (omega arith))
+    nonempty k (take i bs) (drop i bs) h (ap (λ b. (scanned k b).ending) (take-append-drop i bs) ∙ ap (λ s. s.ending) (good_accepted k rs bs good)) (simp length-drop (omega arith))
 
 pub size_refused : (k : Kind) (bs : List ℕ)
-    → (length bs ≡ 0 → scan k bs ≡ refused (record { fault = NoBytes; line = 0 }))
-    × (60000 < length bs → scan k bs ≡ refused (record { fault = TooLong; line = 0 }))
+    → (length bs ≡ 0 → scanned k bs ≡ refused (record { fault = NoBytes; line = 0 }))
+    × (60000 < length bs → scanned k bs ≡ refused (record { fault = TooLong; line = 0 }))
 size_refused k bs = (λ e. rw (eq-eqb (length bs) 0 e), λ l. rw (ne_eqb (length bs) 0 (λ e. omega arith), lt-ltb 60000 (length bs) l))

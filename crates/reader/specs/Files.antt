@@ -10,7 +10,7 @@ use Rattle.reader.specs.declared.records.Side.TheVariants.{Start, End}
 use Rattle.reader.specs.declared.records.Record.{Record}
 use Rattle.reader.specs.declared.records.Record.TheVariants.{Arc, Delay, Bound, Pair}
 use Rattle.reader.specs.declared.faults.FileFault.TheVariants.{NoBytes, TooLong}
-use Rattle.reader.specs.Format.{scan, refused, text_of}
+use Rattle.reader.specs.Format.{scanned, refused, text_of}
 use Rattle.reader.specs.Layouts.{Entry, layouts}
 
 -- a line of fields
@@ -75,11 +75,11 @@ pub record Good (k : Kind) (rs : List Record) (bs : List ℕ) : Type 0 where
 
 -- a good file is accepted, with just its records in order
 abbrev pub GoodAccepted : Type 0
-GoodAccepted = (k : Kind) (rs : List Record) (bs : List ℕ) → Good k rs bs → scan k bs ≡ record { records = rs; ending = None }
+GoodAccepted = (k : Kind) (rs : List Record) (bs : List ℕ) → Good k rs bs → scanned k bs ≡ record { records = rs; ending = None }
 
 -- what is accepted is a good file
 abbrev pub AcceptedGood : Type 0
-AcceptedGood = (k : Kind) (bs : List ℕ) → (scan k bs).ending ≡ None → Good k (scan k bs).records bs
+AcceptedGood = (k : Kind) (bs : List ℕ) → (scanned k bs).ending ≡ None → Good k (scanned k bs).records bs
 
 -- a file has at most one list of records
 abbrev pub OneReading : Type 0
@@ -87,10 +87,10 @@ OneReading = (k : Kind) (rs ss : List Record) (bs : List ℕ) → Good k rs bs �
 
 -- a good file that is cut short is refused
 abbrev pub PrefixRefused : Type 0
-PrefixRefused = (k : Kind) (rs : List Record) (bs : List ℕ) (i : ℕ) → Good k rs bs → i < length bs → (scan k (take i bs)).ending ≢ None
+PrefixRefused = (k : Kind) (rs : List Record) (bs : List ℕ) (i : ℕ) → Good k rs bs → i < length bs → (scanned k (take i bs)).ending ≢ None
 
 -- a file of no bytes is refused with number 1, and one of more than 60,000 bytes with number 2, both with line 0
 abbrev pub SizeRefused : Type 0
 SizeRefused = (k : Kind) (bs : List ℕ)
-    → (length bs ≡ 0 → scan k bs ≡ refused (record { fault = NoBytes; line = 0 }))
-    × (60000 < length bs → scan k bs ≡ refused (record { fault = TooLong; line = 0 }))
+    → (length bs ≡ 0 → scanned k bs ≡ refused (record { fault = NoBytes; line = 0 }))
+    × (60000 < length bs → scanned k bs ≡ refused (record { fault = TooLong; line = 0 }))

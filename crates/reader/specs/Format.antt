@@ -125,5 +125,5 @@ file k [] = stop NamesUnended 1
 file k (p ∷ []) = stop NamesUnended 1
 file k (p ∷ q ∷ ps) = headed k (chosen (layouts k) (pieces 44 p)) (pieces 44 p) (q ∷ ps)
 
-abbrev pub scan : Kind → List ℕ → Scan
-scan k bs = cond (length bs == 0) (stop NoBytes 0) (cond (nat_lt 60000 (length bs)) (stop TooLong 0) (file k (pieces 10 bs)))
+abbrev pub scanned : Kind → List ℕ → Scan
+scanned k bs = cond (length bs == 0) (stop NoBytes 0) (cond (nat_lt 60000 (length bs)) (stop TooLong 0) (file k (pieces 10 bs)))

@@ -8,13 +8,13 @@ use Rattle.reader.specs.declared.listing.ListFault.TheVariants.{File, Memory}
 use Rattle.reader.specs.Format.{Scan}
 
 -- n at the end of a good file
-abbrev pub count_by : Option FileRefusal → ℕ → Result ℕ FileRefusal
-count_by None n = Ok n
-count_by (Some e) n = Err e
+abbrev pub unless_refused : Option FileRefusal → ℕ → Result ℕ FileRefusal
+unless_refused None n = Ok n
+unless_refused (Some e) n = Err e
 
 -- how many value lines there are
 abbrev pub counted : Scan → Result ℕ FileRefusal
-counted s = count_by s.ending (length s.records)
+counted s = unless_refused s.ending (length s.records)
 
 -- a good file's records are put behind those of the vector v, which is w after it, or v is left as it was: the refusal is
 -- the file's own, and want of memory comes only where v has no room for the records

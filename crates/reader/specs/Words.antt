@@ -16,7 +16,7 @@ turned_down n =
     (cond (n == 8) (codes "all 1024 arc numbers are taken")
     (cond (n == 9) (codes "the arc is not live")
     (cond (n == 10) (codes "the arc is in a false set")
-    (cond (n == 11) (codes "no live path leads from the one node to the other")
+    (cond (n == 11) (codes "no path of one or more live arcs leads from the first node to the second")
     (cond (n == 14) (codes "a table has the wrong length") (codes "the record was turned down")))))))
 
 abbrev pub fault_words : FileFault → List ℕ

@@ -63,7 +63,8 @@ impl fmt::Display for FileFault {
             FileFault::Call(8) => "all 1024 arc numbers are taken",
             FileFault::Call(9) => "the arc is not live",
             FileFault::Call(10) => "the arc is in a false set",
-            FileFault::Call(11) => "no live path leads from the one node to the other",
+            FileFault::Call(11) =>
+                "no path of one or more live arcs leads from the first node to the second",
             FileFault::Call(14) => "a table has the wrong length",
             FileFault::Call(_) => "the record was turned down",
         })

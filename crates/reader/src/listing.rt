@@ -1,7 +1,7 @@
 // A file's records by themselves: how many there are, and which.
 ghost use Rattle.std.specs.Prelude.{◌≡◌, Some};
 ghost use Rattle.reader.specs.declared.listing.ListFault.TheVariants.{File, Memory};
-ghost use Rattle.reader.specs.Format.{scan};
+ghost use Rattle.reader.specs.Format.{scanned};
 ghost use Rattle.reader.specs.Listing.{counted, Appends, Lists, ListsInto};
 ghost use Rattle.reader.specs.Words.{list_words};
 
@@ -14,7 +14,7 @@ use std::fmt;
 
 // How many value lines a file has, if it is a good one.
 pub fn count(kind: Kind, bytes: &[u8]) -> Result<usize, FileRefusal>
-    ensures { result ≡ counted (scan kind bytes.now) }
+    ensures { result ≡ counted (scanned kind bytes.now) }
 {
     let mut reader = Reader::open(kind, bytes)?;
     let mut lines = 0;
@@ -63,7 +63,7 @@ impl<T: Drop> From<AllocFailed<T>> for ListFault {
 
 // Puts a file's records behind those of a vector, up to the first refusal.
 fn append(kind: Kind, bytes: &[u8], records: &mut Vec<Record>) -> Result<(), ListFault>
-    ensures { Appends (scan kind bytes.now) records.old result records.new }
+    ensures { Appends (scanned kind bytes.now) records.old result records.new }
 {
     let mut reader = Reader::open(kind, bytes)?;
     while let Some(record) = reader.next()? {
@@ -74,7 +74,7 @@ fn append(kind: Kind, bytes: &[u8], records: &mut Vec<Record>) -> Result<(), Lis
 
 // Puts a good file's records behind those of a vector, or leaves these as they were.
 pub fn list_into(kind: Kind, bytes: &[u8], records: &mut Vec<Record>) -> Result<(), ListFault>
-    ensures { ListsInto (scan kind bytes.now) records.old result records.new }
+    ensures { ListsInto (scanned kind bytes.now) records.old result records.new }
 {
     let before = records.len();
     let done = append(kind, bytes, records);
@@ -86,7 +86,7 @@ pub fn list_into(kind: Kind, bytes: &[u8], records: &mut Vec<Record>) -> Result<
 
 // A good file's records, in order.
 pub fn list(heap: Global, kind: Kind, bytes: &[u8]) -> Result<Vec<Record>, ListFault>
-    ensures { Lists (scan kind bytes.now) result }
+    ensures { Lists (scanned kind bytes.now) result }
 {
     let mut records = Vec::new(heap);
     list_into(kind, bytes, &mut records)?;

@@ -1,7 +1,7 @@
 // Hands a file's records to whoever takes them.
 ghost use Rattle.std.specs.Prelude.{◌≡◌, ℕ, ◌+◌, Result};
 ghost use Rattle.reader.specs.declared.records.Record.{Record};
-ghost use Rattle.reader.specs.Format.{scan};
+ghost use Rattle.reader.specs.Format.{scanned};
 ghost use Rattle.reader.specs.Reading.{left};
 ghost use Rattle.reader.specs.Loading.{Leaves, Answers, numbered, replay, loaded, reached};
 
@@ -50,7 +50,7 @@ fn drain<S: Sink>(reader: &mut Reader, sink: &mut S) -> Result<(), FileRefusal>
 
 // Hands a file's records to the sink, up to the first refusal. A refused file leaves what the records before that made.
 pub fn run<S: Sink>(kind: Kind, bytes: &[u8], sink: &mut S) -> Result<(), FileRefusal>
-    ensures { Answers (loaded S.step (scan kind bytes.now) (S.holds sink.old)) (reached S.step (scan kind bytes.now).records (S.holds sink.old)) result (S.holds sink.new) }
+    ensures { Answers (loaded S.step (scanned kind bytes.now) (S.holds sink.old)) (reached S.step (scanned kind bytes.now).records (S.holds sink.old)) result (S.holds sink.new) }
 {
     let mut reader = Reader::open(kind, bytes)?;
     drain(&mut reader, sink)
@@ -58,7 +58,7 @@ pub fn run<S: Sink>(kind: Kind, bytes: &[u8], sink: &mut S) -> Result<(), FileRe
 
 // Loads a whole file, or leaves the sink as it was.
 pub fn load<S: Sink + Copy>(kind: Kind, bytes: &[u8], sink: &mut S) -> Result<(), FileRefusal>
-    ensures { Leaves (loaded S.step (scan kind bytes.now) (S.holds sink.old)) (S.holds sink.old) result (S.holds sink.new) }
+    ensures { Leaves (loaded S.step (scanned kind bytes.now) (S.holds sink.old)) (S.holds sink.old) result (S.holds sink.new) }
 {
     let mut copy = *sink;
     run(kind, bytes, &mut copy)?;

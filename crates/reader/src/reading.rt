@@ -1,7 +1,7 @@
 // Opens a file, and reads its records one by one.
 ghost use Rattle.std.specs.Prelude.{◌≡◌, ℕ, ◌<◌, ◌≤◌, [], map, length, MatchResult, Some, slice_index, slice_index_or};
 ghost use Rattle.reader.specs.Pieces.{pieces};
-ghost use Rattle.reader.specs.Format.{file, scan, refused};
+ghost use Rattle.reader.specs.Format.{file, scanned, refused};
 ghost use Rattle.reader.specs.Layouts.{arity};
 ghost use Rattle.reader.specs.Names.{place};
 
@@ -39,8 +39,8 @@ fn refuse(fault: FileFault, line: usize) -> FileRefusal
 
 fn check_size(bytes: &[u8]) -> Result<(), FileRefusal>
     ensures { MatchResult result
-        (λ _. (length bytes.now ≤ 60000) × ((k : Kind) → scan k bytes.now ≡ file k (pieces 10 bytes.now)))
-        (λ e. (k : Kind) → scan k bytes.now ≡ refused e) }
+        (λ _. (length bytes.now ≤ 60000) × ((k : Kind) → scanned k bytes.now ≡ file k (pieces 10 bytes.now)))
+        (λ e. (k : Kind) → scanned k bytes.now ≡ refused e) }
 {
     if bytes.is_empty() {
         return Err(refuse(FileFault::NoBytes, 0));
@@ -60,8 +60,8 @@ impl<'a> Reader<'a> {
     // The reader of a file, after its names line.
     pub(crate) fn open(kind: Kind, bytes: &'a [u8]) -> Result<Reader<'a>, FileRefusal>
         ensures { MatchResult result
-            (λ reader. (left reader ≡ scan kind bytes.now) × (reader.cursor.line ≡ 1))
-            (λ e. scan kind bytes.now ≡ refused e) }
+            (λ reader. (left reader ≡ scanned kind bytes.now) × (reader.cursor.line ≡ 1))
+            (λ e. scanned kind bytes.now ≡ refused e) }
     {
         check_size(bytes)?;
         let mut cursor = Cursor::new(bytes);

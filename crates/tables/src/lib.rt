@@ -2,7 +2,5 @@
 #![tactic(auto)]
 
 mod tables;
-#[cfg(test)]
-mod tests;
 
 pub use tables::Tables;

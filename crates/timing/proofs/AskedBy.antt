@@ -1,5 +1,5 @@
 -- What the lines beyond its arcs ask of a line: the model's words, and the tables' marks.
-use Rattle.std.proofs.Common.{◌≡◌, ℕ, zero, suc, ◌+◌, ◌-◌, ◌<◌, ◌≤◌, Bool, true, false, cond, eqb, List, [], ◌∷◌, ◌++◌, map, length, get_or, take, drop, Some, None, Option, sym, refl, ap, ◌∙◌, subst, ap₂, inl, inr, arith}
+use Rattle.std.proofs.Common.{◌≡◌, ℕ, zero, suc, ◌+◌, ◌-◌, ◌<◌, ◌≤◌, Bool, true, false, cond, eqb, List, [], ◌∷◌, ◌++◌, map, length, get_or, take, drop, Some, None, Option, sym, refl, ap, ◌∙◌, subst, ap₂, inl, inr, arith, option_to_list}
 use lib.Bits.{bit_and, bit_or}
 use Rattle.std.specs.List.{AllByRecursion, flat_map}
 use Rattle.std.proofs.lemmas.List.{append-nil, append_assoc, length-append, length-drop, drop-append-le, drop_at, drop-drop, drop-map}
@@ -22,7 +22,7 @@ use Rattle.timing.specs.declared.crossing.Crossing.{Crossing}
 use Rattle.timing.specs.Crossings.{crossing_tag}
 use Rattle.timing.specs.WithRows.{arc_with, arcs_with}
 use Rattle.timing.specs.Bringing.{crossing_of}
-use Rattle.timing.specs.Requiring.{Mark, as_list, ask_of, asked_of, asked_through, asked_at}
+use Rattle.timing.specs.Requiring.{Mark, ask_of, asked_of, asked_through, asked_at}
 use Rattle.timing.specs.RequiredFrom.{FirstsAre}
 use Rattle.timing.proofs.Blocks.{Listed, all_listed, begins_same, ends_same}
 use Rattle.timing.proofs.Arriving.{lines_at, own_nodes, later, arrivals_grow, first_next, joined_same}
@@ -36,7 +36,7 @@ order_behind : {R : Type 0} (xs ys : List (sheets.Line R)) → InOrder (xs ++ ys
 order_behind [] ys o = o
 order_behind (x ∷ xs) ys o = order_behind xs ys o.1
 
-one_asks : {R : Type 0} (m : Rows R) (x : Arc R) (h : Crossing R) → x.number ≡ h.arc → x.row ≡ h.row → (k : ℕ) (o : Option (sheets.Told R)) → asks m x k o ≡ as_list (ask_of m h k o)
+one_asks : {R : Type 0} (m : Rows R) (x : Arc R) (h : Crossing R) → x.number ≡ h.arc → x.row ≡ h.row → (k : ℕ) (o : Option (sheets.Told R)) → asks m x k o ≡ option_to_list (ask_of m h k o)
 one_asks m x h p q k None = refl
 one_asks {R} m x h p q k (Some y) = let f : ℕ → R → List (sheets.Told R) = λ a z. record { row = m.plus y.row (m.opposite z); arc = a; line = k } ∷ [] in ap₂ f p q
 
@@ -79,9 +79,9 @@ module _ {R : Type 0} (m : Rows R) (b : RowBlock R) where
     over_none k ps a = ap (λ ls. asked_over m b l x k (timed m b k ls)) (sym (append-nil ps)) ∙ over_others k ps [] a
 
     -- of the lines ns of the node that the arc leads to, one at most has the tag
-    over_own : (h : Crossing R) → ((k : ℕ) (o : Option (sheets.Told R)) → asks m x k o ≡ as_list (ask_of m h k o)) → (k : ℕ) (ns qs : List (sheets.Line R)) → InOrder (ns ++ qs)
+    over_own : (h : Crossing R) → ((k : ℕ) (o : Option (sheets.Told R)) → asks m x k o ≡ option_to_list (ask_of m h k o)) → (k : ℕ) (ns qs : List (sheets.Line R)) → InOrder (ns ++ qs)
         → AllByRecursion (λ (p : sheets.Line R). p.node ≡ x.to) ns → AllByRecursion (λ (p : sheets.Line R). p.node ≡ x.to → ⊥) qs
-        → asked_over m b l x k (timed m b k (ns ++ qs)) ≡ as_list (asked_of m h (pass b l.tag x) k (take (length ns) (map mark (timed m b k (ns ++ qs)))))
+        → asked_over m b l x k (timed m b k (ns ++ qs)) ≡ option_to_list (asked_of m h (pass b l.tag x) k (take (length ns) (map mark (timed m b k (ns ++ qs)))))
     over_own h same k [] qs o a z = over_none k qs (All-weaker (λ (p : sheets.Line R). p.node ≡ x.to → ⊥) Other (λ p f e _. f e) qs z)
     over_own h same k (n ∷ ns) qs o a z =
         ap (λ s. cond s (cond (eqb n.tag t) (asks m x k own ++ rest) rest) rest) (eq-eqb n.node x.to a.0)
@@ -106,16 +106,16 @@ module _ {R : Type 0} (m : Rows R) (b : RowBlock R) where
         behind e p (inl q) f u = omega (arith, q, f, a.0)
         behind e p (inr q) f u = omega (arith, q.1, u, e)
 
-        go : (s : Bool) → eqb n.tag t ≡ s → rest ≡ as_list found → cond s (asks m x k own ++ rest) rest ≡ as_list (cond s (ask_of m h k own) found)
+        go : (s : Bool) → eqb n.tag t ≡ s → rest ≡ option_to_list found → cond s (asks m x k own ++ rest) rest ≡ option_to_list (cond s (ask_of m h k own) found)
         go true e r =
             ap (λ c. asks m x k own ++ c) (over_none (suc k) (ns ++ qs) (All-weaker (Precedes n) Other (behind (eqb-true n.tag t e)) (ns ++ qs) o.0))
             ∙ append-nil (asks m x k own) ∙ same k own
         go false e r = r
 
     -- where the lines of that node stand behind the line numbered i
-    pub over_beyond : (laws : Laws m) (h : Crossing R) → ((k : ℕ) (o : Option (sheets.Told R)) → asks m x k o ≡ as_list (ask_of m h k o)) → (n i : ℕ) → x.to < n → i ≤ length (arrivals m b x.to)
+    pub over_beyond : (laws : Laws m) (h : Crossing R) → ((k : ℕ) (o : Option (sheets.Told R)) → asks m x k o ≡ option_to_list (ask_of m h k o)) → (n i : ℕ) → x.to < n → i ≤ length (arrivals m b x.to)
         → asked_over m b l x i (timed m b i (drop i (arrivals m b n)))
-        ≡ as_list (asked_of m h (pass b l.tag x) (length (arrivals m b x.to)) (take (length (lines_at m b laws x.to)) (map mark (timed m b (length (arrivals m b x.to)) (drop (length (arrivals m b x.to)) (arrivals m b n))))))
+        ≡ option_to_list (asked_of m h (pass b l.tag x) (length (arrivals m b x.to)) (take (length (lines_at m b laws x.to)) (map mark (timed m b (length (arrivals m b x.to)) (drop (length (arrivals m b x.to)) (arrivals m b n))))))
     over_beyond laws h same n i below le =
         let u = x.to in
         let k = later m b laws u n below in
@@ -131,7 +131,7 @@ module _ {R : Type 0} (m : Rows R) (b : RowBlock R) where
         ∙ ap (λ j. asked_over m b l x j (timed m b j (N ++ Q))) z
         ∙ over_own h same (length A) N Q (order_behind A (N ++ Q) (subst InOrder parts (arrivals_order m b laws n))) (own_nodes m b laws u)
         (All-weaker (λ (p : sheets.Line R). u < p.node) (λ (p : sheets.Line R). p.node ≡ u → ⊥) (λ p q e. omega (arith, q, e)) Q k.above)
-        ∙ ap (λ ls. as_list (asked_of m h (pass b l.tag x) (length A) (take (length N) (map mark (timed m b (length A) ls))))) (sym (ap (drop (length A)) parts ∙ drop_at A (N ++ Q) (length A) refl))
+        ∙ ap (λ ls. option_to_list (asked_of m h (pass b l.tag x) (length A) (take (length N) (map mark (timed m b (length A) ls))))) (sym (ap (drop (length A)) parts ∙ drop_at A (N ++ Q) (length A) refl))
 
   -- ---- over all arcs from a node
   module _ (rows : List R) (l : sheets.Line R) (i : ℕ) (ts : List (sheets.Timed R)) where
@@ -197,12 +197,12 @@ module _ {R : Type 0} (m : Rows R) (b : RowBlock R) where
           ∙ drop-map mark d (timed m b i (drop i A))
           ∙ ap (map mark) (timed_drop d i (drop i A) ∙ ap (timed m b (i + d)) (drop-drop d i A))
 
-      lift : (p : Bool) (ys : List (sheets.Told R)) (o : Option (sheets.Told R)) → ys ≡ as_list o → cond p ys [] ≡ as_list (cond p o None)
+      lift : (p : Bool) (ys : List (sheets.Told R)) (o : Option (sheets.Told R)) → ys ≡ option_to_list o → cond p ys [] ≡ option_to_list (cond p o None)
       lift true ys o e = e
       lift false ys o e = refl
 
       over_tables : (k : ℕ) (e : LiveArc) → get_or arcs k None ≡ Some e → i ≤ length (arrivals m b e.to)
-          → asked_from rows l i (timed m b i (drop i (arrivals m b n))) k (Some e) ≡ as_list (asked_through m arcs rows firsts xs l.tag k (Some e))
+          → asked_from rows l i (timed m b i (drop i (arrivals m b n))) k (Some e) ≡ option_to_list (asked_through m arcs rows firsts xs l.tag k (Some e))
       over_tables k e live le =
           let x = arc_with m.origin rows k e in
           let h = crossing_of m arcs rows k e in
@@ -214,28 +214,28 @@ module _ {R : Type 0} (m : Rows R) (b : RowBlock R) where
           let first : F ≡ get_or firsts e.to 0 = sym (at e.to (omega arith)) in
           let z : i + (F - i) ≡ F = omega arith in
           let count : length N ≡ get_or firsts (e.to + 1) 0 - F = omega (arith, first_after e.to lt) in
-          let told : asked_over m b l x i T ≡ as_list (asked_of m h (crossing_tag h l.tag) (get_or firsts e.to 0) (segment (get_or firsts e.to 0) (get_or firsts (e.to + 1) 0 - get_or firsts e.to 0) xs)) =
+          let told : asked_over m b l x i T ≡ option_to_list (asked_of m h (crossing_tag h l.tag) (get_or firsts e.to 0) (segment (get_or firsts e.to 0) (get_or firsts (e.to + 1) 0 - get_or firsts e.to 0) xs)) =
           over_beyond l x laws h (one_asks m x h refl refl) n i lt le
-          ∙ ap₂ (λ t ys. as_list (asked_of m h t F (take (length N) ys))) (pass_is k e l.tag) (sym (ap (λ j. drop j xs) (sym z) ∙ marked_from (F - i) ∙ ap (λ j. map mark (timed m b j (drop j A))) z))
-          ∙ ap (λ c. as_list (asked_of m h (crossing_tag h l.tag) F (take c (drop F xs)))) count
-          ∙ ap (λ f. as_list (asked_of m h (crossing_tag h l.tag) f (segment f (get_or firsts (e.to + 1) 0 - f) xs))) first in
+          ∙ ap₂ (λ t ys. option_to_list (asked_of m h t F (take (length N) ys))) (pass_is k e l.tag) (sym (ap (λ j. drop j xs) (sym z) ∙ marked_from (F - i) ∙ ap (λ j. map mark (timed m b j (drop j A))) z))
+          ∙ ap (λ c. option_to_list (asked_of m h (crossing_tag h l.tag) F (take c (drop F xs)))) count
+          ∙ ap (λ f. option_to_list (asked_of m h (crossing_tag h l.tag) f (segment f (get_or firsts (e.to + 1) 0 - f) xs))) first in
           ap (λ p. cond p (asked_over m b l x i T) []) (passes_is k e l.tag)
           ∙ lift (apart (crossing_tag h l.tag) h.ends) (asked_over m b l x i T) _ told
 
       pub by_tables : (v : ℕ) → l.node ≡ v → v < n → i ≤ get_or firsts (v + 1) 0
-          → asked_by m b l b.arcs i (timed m b i (drop i (arrivals m b n))) ≡ flat_map (λ k. as_list (asked_at m arcs rows firsts xs l.tag k)) (numbers_at Tail v 0 arcs)
+          → asked_by m b l b.arcs i (timed m b i (drop i (arrivals m b n))) ≡ flat_map (λ k. option_to_list (asked_at m arcs rows firsts xs l.tag k)) (numbers_at Tail v 0 arcs)
       by_tables v e h le =
           let T = timed m b i (drop i (arrivals m b n)) in
           ap (λ es. asked_by m b l es i T) q
           ∙ by_numbers rows l i T arcs 0 arcs (λ j. let z : 0 + j ≡ j = omega arith in ap (λ k. get_or arcs k None) z)
           ∙ ap (λ u. flat_map (λ j. asked_from rows l i T j (get_or arcs j None)) (numbers_at Tail u 0 arcs)) e
-          ∙ joined_same (λ j. asked_from rows l i T j (get_or arcs j None)) (λ k. as_list (asked_at m arcs rows firsts xs l.tag k)) (numbers_at Tail v 0 arcs)
-          (All-weaker (Listed Tail v arcs) (λ k. asked_from rows l i T k (get_or arcs k None) ≡ as_list (asked_at m arcs rows firsts xs l.tag k)) each (numbers_at Tail v 0 arcs) (all_listed Tail v arcs))
+          ∙ joined_same (λ j. asked_from rows l i T j (get_or arcs j None)) (λ k. option_to_list (asked_at m arcs rows firsts xs l.tag k)) (numbers_at Tail v 0 arcs)
+          (All-weaker (Listed Tail v arcs) (λ k. asked_from rows l i T k (get_or arcs k None) ≡ option_to_list (asked_at m arcs rows firsts xs l.tag k)) each (numbers_at Tail v 0 arcs) (all_listed Tail v arcs))
         where
-          each : (k : ℕ) → Listed Tail v arcs k → asked_from rows l i (timed m b i (drop i (arrivals m b n))) k (get_or arcs k None) ≡ as_list (asked_at m arcs rows firsts xs l.tag k)
+          each : (k : ℕ) → Listed Tail v arcs k → asked_from rows l i (timed m b i (drop i (arrivals m b n))) k (get_or arcs k None) ≡ option_to_list (asked_at m arcs rows firsts xs l.tag k)
           each k p =
               let T = timed m b i (drop i (arrivals m b n)) in
               let lt : v < p.arc.to = omega (arith, rising k p.arc p.live, p.at) in
               ap (asked_from rows l i T k) p.live
               ∙ over_tables k p.arc p.live (omega (arith, le, firsts_rise v p.arc.to lt (below k p.arc p.live)))
-              ∙ ap (λ o. as_list (asked_through m arcs rows firsts xs l.tag k o)) (sym p.live)
+              ∙ ap (λ o. option_to_list (asked_through m arcs rows firsts xs l.tag k o)) (sym p.live)

@@ -1,5 +1,5 @@
 -- The steps of the required pass, from the last line back.
-use Rattle.std.proofs.Common.{◌≡◌, ℕ, zero, suc, ◌+◌, ◌-◌, ◌<◌, ◌≤◌, true, List, [], ◌∷◌, ◌++◌, map, length, get_or, drop, set, Some, None, Option, sym, refl, ap, ◌∙◌, subst, ap₂, arith}
+use Rattle.std.proofs.Common.{◌≡◌, ℕ, zero, suc, ◌+◌, ◌-◌, ◌<◌, ◌≤◌, true, List, [], ◌∷◌, ◌++◌, map, length, get_or, drop, set, Some, None, Option, sym, refl, ap, ◌∙◌, subst, ap₂, arith, option_to_list}
 use Rattle.std.specs.List.{AllByRecursion, flat_map}
 use Rattle.std.proofs.lemmas.List.{append_assoc, length-map, length-drop, take_all, drop_all, drop_at, drop_more, drop-set, drop-map, map-set, set-get_or, get_or-map, get_or-drop, get_or_append_left}
 use Rattle.measure.specs.declared.measure.Measure.{Ghosts as Measure}
@@ -26,7 +26,7 @@ use Rattle.timing.specs.declared.block.TimedBlock.{TimedBlock}
 use Rattle.timing.specs.Measured.{measured}
 use Rattle.timing.specs.TimedBlock.{arcs_in, rows_of, asks}
 use Rattle.timing.specs.Arrived.{Arrived}
-use Rattle.timing.specs.Requiring.{Mark, mark_of, marks, as_list, AllBeyond, AllAskBeyond}
+use Rattle.timing.specs.Requiring.{Mark, mark_of, marks, AllBeyond, AllAskBeyond}
 use Rattle.timing.specs.RequiredFrom.{asked_line, unasked, unasked_of, FirstsAre, RequiredFrom}
 use Rattle.timing.proofs.Tabled.{LawsOf, rows_sound}
 use Rattle.timing.proofs.Blocks.{Listed, all_listed}
@@ -169,7 +169,7 @@ module _ {M : Type 0} (measure : Measure M) (laws : LawsOf measure) (t : TimedBl
 
     pub required_more : (numbers : List ℕ) (v : ℕ) → numbers ≡ numbers_at Tail v 0 arcs → (j : ℕ) (ls ls' : List Line) (ys ys' : List M) (es : List (sheets.Told R)) (o : Option (sheets.Told R)) → v < 256 → get_or firsts v 0 ≤ j → j < get_or firsts (v + 1) 0 → j < length ls → length ys ≡ length ls
         → RequiredFrom row m b 256 (j + 1) ls ys → es ≡ ended (b.end v)
-        → o ≡ first_least m (es ++ flat_map (λ k. as_list (asks measure t firsts (marks row ls ys) (get_or ls j past_line).tag k)) numbers)
+        → o ≡ first_least m (es ++ flat_map (λ k. option_to_list (asks measure t firsts (marks row ls ys) (get_or ls j past_line).tag k)) numbers)
         → ls' ≡ set ls j (asked_line (get_or ls j past_line) o) → map row ys' ≡ set (map row ys) j (row_or m.origin o) → RequiredFrom row m b 256 j ls' ys'
     required_more numbers v listed j ls ls' ys ys' es o h lo hi in_lines even r ends told new-lines new-rows =
         let A = arrivals m b 256 in
@@ -186,8 +186,8 @@ module _ {M : Type 0} (measure : Measure M) (laws : LawsOf measure) (t : TimedBl
         marks_drop row m i ls ys even ∙ ap (λ xs. marks row xs (drop i ys)) r.lines ∙ marks_written row m.origin T (drop i ys) r.rows in
         let asked : o ≡ asked_here m b l j (timed m b (suc j) (drop (suc j) A)) =
         told
-        ∙ ap (λ ks. first_least m (es ++ flat_map (λ k. as_list (asks measure t firsts (marks row ls ys) x.tag k)) ks)) listed
-        ∙ ap₂ (λ cs s. first_least m (cs ++ flat_map (λ k. as_list (asks measure t firsts (marks row ls ys) s k)) (numbers_at Tail v 0 arcs))) (ends ∙ ap (λ u. ended (b.end u)) (sym node)) tag
+        ∙ ap (λ ks. first_least m (es ++ flat_map (λ k. option_to_list (asks measure t firsts (marks row ls ys) x.tag k)) ks)) listed
+        ∙ ap₂ (λ cs s. first_least m (cs ++ flat_map (λ k. option_to_list (asks measure t firsts (marks row ls ys) s k)) (numbers_at Tail v 0 arcs))) (ends ∙ ap (λ u. ended (b.end u)) (sym node)) tag
         ∙ ap (λ cs. first_least m (ended (b.end l.node) ++ cs)) (sym (by_tables m b orders arcs rows refl 256 t.graph.now.rising t.graph.now.noded firsts at l i (marks row ls ys) marked v node h (omega arith)))
         ∙ ap (λ k. first_least m (ended (b.end l.node) ++ asked_by m b l b.arcs k (timed m b k (drop k A)))) z in
         let behind : drop j A ≡ l ∷ drop (suc j) A = drop_more A j past_model (omega arith) ∙ ap (λ k. l ∷ drop k A) z in

@@ -1,6 +1,7 @@
 pub mod Passed
 pub mod Sums
 pub mod Sorted
+pub mod Searching
 pub mod Entering
 pub mod Crossed
 pub mod Bringing

@@ -1,5 +1,5 @@
 -- What is asked of a line, step by step.
-use Rattle.std.proofs.Common.{◌≡◌, ℕ, zero, suc, ◌+◌, ◌<◌, ◌≤◌, Bool, true, false, cond, eqb, List, [], ◌∷◌, ◌++◌, length, get_or, take, drop, Some, None, Option, sym, refl, ap, ◌∙◌, ap₂, arith}
+use Rattle.std.proofs.Common.{◌≡◌, ℕ, zero, suc, ◌+◌, ◌<◌, ◌≤◌, Bool, true, false, cond, eqb, List, [], ◌∷◌, ◌++◌, length, get_or, take, drop, Some, None, Option, sym, refl, ap, ◌∙◌, ap₂, arith, option_to_list}
 use Rattle.std.specs.List.{flat_map, position, position_from}
 use Rattle.std.proofs.lemmas.List.{take_more, append-nil, append_assoc, get_or-take, get_or-drop, length-drop, length-take-le}
 use Rattle.std.proofs.lemmas.Grind.{flat_map-append}
@@ -13,7 +13,7 @@ use Rattle.timing.specs.declared.crossing.Crossing.{Crossing}
 use Rattle.graph.specs.Sorting.{segment}
 use Rattle.sheet.specs.Lines.{past_line}
 use Rattle.timing.proofs.Crossed.{some_at}
-use Rattle.timing.specs.Requiring.{mark_of, marks, as_list, has_tag, pick, ask_of, asked_of}
+use Rattle.timing.specs.Requiring.{mark_of, marks, has_tag, pick, ask_of, asked_of}
 
 get_or-segment : {X : Type 0} (a n r : ℕ) (xs : List X) (d : X) → r < n → get_or (segment a n xs) r d ≡ get_or xs (a + r) d
 get_or-segment a n r xs d h = get_or-take n (drop a xs) r d h ∙ get_or-drop a xs r d
@@ -99,15 +99,15 @@ module _ {R : Type 0} (m : Rows R) where
   least_push a [] c = refl
   least_push a (x ∷ cs) c = least_push (cond (m.not_later a.row x.row) a x) cs c
 
-  pub pick_more : (cs : List (sheets.Told R)) (o : Option (sheets.Told R)) → pick m (first_least m cs) o ≡ first_least m (cs ++ as_list o)
+  pub pick_more : (cs : List (sheets.Told R)) (o : Option (sheets.Told R)) → pick m (first_least m cs) o ≡ first_least m (cs ++ option_to_list o)
   pick_more [] None = refl
   pick_more [] (Some c) = refl
   pick_more (a ∷ cs) None = ap (λ l. Some (least m a l)) (sym (append-nil cs))
   pick_more (a ∷ cs) (Some c) = ap Some (sym (least_push a cs c))
 
   pub asks_more : (cs : List (sheets.Told R)) (f : ℕ → Option (sheets.Told R)) (arcs : List ℕ) (i : ℕ) → i < length arcs
-      → pick m (first_least m (cs ++ flat_map (λ k. as_list (f k)) (take i arcs))) (f (get_or arcs i 0)) ≡ first_least m (cs ++ flat_map (λ k. as_list (f k)) (take (i + 1) arcs))
+      → pick m (first_least m (cs ++ flat_map (λ k. option_to_list (f k)) (take i arcs))) (f (get_or arcs i 0)) ≡ first_least m (cs ++ flat_map (λ k. option_to_list (f k)) (take (i + 1) arcs))
   asks_more cs f arcs i h =
-      pick_more (cs ++ flat_map (λ k. as_list (f k)) (take i arcs)) (f (get_or arcs i 0))
-      ∙ ap (first_least m) (append_assoc cs (flat_map (λ k. as_list (f k)) (take i arcs)) (as_list (f (get_or arcs i 0)))
-      ∙ ap (λ l. cs ++ l) (ap (λ l. flat_map (λ k. as_list (f k)) (take i arcs) ++ l) (sym (append-nil (as_list (f (get_or arcs i 0))))) ∙ sym (flat_map-append (λ k. as_list (f k)) (take i arcs) (get_or arcs i 0 ∷ [])) ∙ ap (flat_map (λ k. as_list (f k))) (sym (take_more arcs i 0 h))))
+      pick_more (cs ++ flat_map (λ k. option_to_list (f k)) (take i arcs)) (f (get_or arcs i 0))
+      ∙ ap (first_least m) (append_assoc cs (flat_map (λ k. option_to_list (f k)) (take i arcs)) (option_to_list (f (get_or arcs i 0)))
+      ∙ ap (λ l. cs ++ l) (ap (λ l. flat_map (λ k. option_to_list (f k)) (take i arcs) ++ l) (sym (append-nil (option_to_list (f (get_or arcs i 0))))) ∙ sym (flat_map-append (λ k. option_to_list (f k)) (take i arcs) (get_or arcs i 0 ∷ [])) ∙ ap (flat_map (λ k. option_to_list (f k))) (sym (take_more arcs i 0 h))))

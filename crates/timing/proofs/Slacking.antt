@@ -1,5 +1,5 @@
 -- The slacks of lines, one after the other.
-use Rattle.std.proofs.Common.{◌≡◌, ℕ, zero, suc, ◌+◌, ◌-◌, ◌<◌, ◌≤◌, Bool, true, false, cond, List, [], ◌∷◌, ◌++◌, length, get_or, take, drop, Some, None, Option, sym, refl, ap, ◌∙◌, ap₂, arith, take-add}
+use Rattle.std.proofs.Common.{◌≡◌, ℕ, zero, suc, ◌+◌, ◌-◌, ◌<◌, ◌≤◌, Bool, true, false, cond, List, [], ◌∷◌, ◌++◌, length, get_or, take, drop, Some, None, Option, sym, refl, ap, ◌∙◌, ap₂, arith, take-add, option_to_list}
 use Rattle.std.proofs.lemmas.List.{append_assoc, drop-drop, length-take-le, length-drop}
 use Rattle.paths.specs.Rows.{Rows}
 use Rattle.paths.specs.Sheets as sheets
@@ -7,7 +7,7 @@ use Rattle.paths.specs.Sheets.{slack_of, first_least}
 use Rattle.sheet.specs.declared.line.Line.{Line}
 use Rattle.graph.specs.Sorting.{segment}
 use Rattle.sheet.specs.Lines.{past_line}
-use Rattle.timing.specs.Requiring.{as_list, pick}
+use Rattle.timing.specs.Requiring.{pick}
 use Rattle.timing.specs.Slacks.{timed_of, timeds, slacks_of}
 use Rattle.timing.proofs.Requiring.{pick_more}
 
@@ -34,7 +34,7 @@ module _ {R : Type 0} (m : Rows R) where
       ap (λ l. slack_of m k x x.required ++ l) (slacks_append (suc k) xs ys ∙ ap (λ n. slacks_of m (suc k) xs ++ slacks_of m n ys) z)
       ∙ sym (append_assoc (slack_of m k x x.required) (slacks_of m (suc k) xs) (slacks_of m (k + suc (length xs)) ys))
 
-  pub slacks_more : (a i : ℕ) (ts : List (sheets.Timed R)) (o : Option (sheets.Told R)) → a ≤ i → i ≤ length ts → as_list o ≡ slacks_of m i (segment i 1 ts)
+  pub slacks_more : (a i : ℕ) (ts : List (sheets.Timed R)) (o : Option (sheets.Told R)) → a ≤ i → i ≤ length ts → option_to_list o ≡ slacks_of m i (segment i 1 ts)
       → pick m (first_least m (slacks_of m a (segment a (i - a) ts))) o ≡ first_least m (slacks_of m a (segment a ((i + 1) - a) ts))
   slacks_more a i ts o p q e =
       let z : (i - a) + 1 ≡ (i + 1) - a = omega arith in

@@ -22,7 +22,7 @@ use Rattle.timing.specs.declared.crossing.Crossing.{Crossing}
 use Rattle.timing.specs.WithRows.{arcs_with, block_with}
 use Rattle.timing.specs.Crossings.{meant}
 use Rattle.timing.specs.Asking.{HasTicks}
-use Rattle.timing.specs.Prepared.{Ready}
+use Rattle.timing.specs.Prepared.{Made}
 use Rattle.timing.specs.TimedBlock.{rows_of, crossing_at}
 use Rattle.timing.proofs.Bringing.{row_at}
 
@@ -69,7 +69,7 @@ module _ {M : Type 0} (m : Measure M) (t : TimedBlock) where
   made means has = block_is m.row_of_arc (zeros m.width) means t.ticks m.row_of_time g (λ k e l. omega (arith, t.graph.now.numbered k e l, t.graph.now.room, t.sized)) has
 
   -- it is the block of the graph's content, under the source whose ticks it has
-  pub rows_made : (h : TimingGraph) (means : ℕ → Entry) → Ready h means t → row_block by_node m.row_of_time m.row_of_arc (block_of h) means ≡ Ok (rows_of m t)
+  pub rows_made : (h : TimingGraph) (means : ℕ → Entry) → Made h means t → row_block by_node m.row_of_time m.row_of_arc (block_of h) means ≡ Ok (rows_of m t)
   rows_made h means r =
       subst (λ (x : TimingGraph). ((k : ℕ) (e : LiveArc) → Live (block_of x).arcs k e → HasTicks means t.ticks k e) → row_block by_node m.row_of_time m.row_of_arc (block_of x) means ≡ Ok (rows_of m t)) r.graph_is
       (made means) r.ticks_are

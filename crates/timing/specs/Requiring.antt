@@ -19,10 +19,6 @@ pub record Mark (R : Type 0) : Type 0 where
   pub tag : ℕ
   pub required : Option (sheets.Told R)
 
-abbrev pub as_list : {X : Type 0} → Option X → List X
-as_list None = []
-as_list (Some x) = x ∷ []
-
 module _ {M R : Type 0} (row : M → R) where
   -- an answer by the row that it means
   abbrev pub told : Option (Told M) → Option (sheets.Told R)

@@ -1,10 +1,11 @@
 -- What a timing answers, and the tables that it leaves, for the block that a graph makes or what stops it.
-use Rattle.std.specs.Prelude.{ℕ, cond, List, length, Ok, Err, Result, nat_lt}
+use Rattle.std.specs.Prelude.{◌≡◌, ℕ, cond, List, length, Ok, Err, Result, nat_lt}
+use Rattle.std.specs.Result.{result_map_both}
 use Rattle.paths.specs.Rows.{Rows}
 use Rattle.paths.specs.Blocks.{RowBlock}
 use Rattle.paths.specs.Graphs.{Untimed, node_count}
 use Rattle.paths.specs.Sheets as sheets
-use Rattle.paths.specs.Sheets.{sheet}
+use Rattle.paths.specs.Sheets.{sheet, count_answer}
 use Rattle.sheet.specs.Tables.{Tables, well_sized, blanked}
 use Rattle.sheet.specs.Written.{written}
 use Rattle.timing.specs.declared.refusals.TimeRefusal.{TimeRefusal}
@@ -31,3 +32,7 @@ module _ {R : Type 0} (m : Rows R) (t : Tables R) where
 
   abbrev pub time_outcome : Result (RowBlock R) Untimed → TimeOutcome R
   time_outcome block = cond (well_sized t) (block_outcome block) (untimed WrongLength)
+
+  -- so a sheet is answered as is said of it by itself, without tables to write it in
+  abbrev pub CountsSheets : Type 0
+  CountsSheets = (ts : List (sheets.Timed R)) → result_map_both (λ n. n) (λ x. x.number) (sheet_outcome ts).answer ≡ count_answer (length t.lines) ts

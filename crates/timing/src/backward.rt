@@ -1,5 +1,5 @@
 // The required times of all lines, from the last node back.
-ghost use Rattle.std.specs.Prelude.{◌≡◌, ◌+◌, ◌<◌, ◌≤◌, map, length, slice_index};
+ghost use Rattle.std.specs.Prelude.{◌≡◌, ◌+◌, ◌<◌, ◌≤◌, map, length, slice_index, option_to_list};
 ghost use Rattle.measure.specs.Rows.{zeros};
 ghost use Rattle.graph.specs.declared.parts.ArcEnd.TheVariants.{Tail};
 ghost use Rattle.graph.specs.Index.{numbers_at};
@@ -7,7 +7,7 @@ ghost use Rattle.paths.specs.Sheets.{arrivals, ended};
 ghost use Rattle.sheet.specs.Written.{line_of, required_of};
 ghost use Rattle.timing.specs.Measured.{measured};
 ghost use Rattle.timing.specs.TimedBlock.{arcs_in, rows_of, sheet_of};
-ghost use Rattle.timing.specs.Requiring.{told, as_list};
+ghost use Rattle.timing.specs.Requiring.{told};
 ghost use Rattle.timing.specs.RequiredFrom.{asked_line, unasked, unasked_of, FirstsAre, RequiredFrom};
 
 use crate::block::TimedBlock;
@@ -50,7 +50,7 @@ fn require_node<M: Measure>(
     required: &mut [M],
 )
     requires node { node < 256 }
-    requires end { as_list (told M.Measure.row end) ≡ ended ((rows_of M.Measure block.now).end node) }
+    requires end { option_to_list (told M.Measure.row end) ≡ ended ((rows_of M.Measure block.now).end node) }
     requires numbers { numbers.now ≡ numbers_at Tail node 0 (arcs_in block.now) }
     requires firsts { FirstsAre (measured M.Measure) (rows_of M.Measure block.now) 256 firsts.now }
     requires lines { length lines.old ≤ 4096 }

@@ -15,10 +15,11 @@ mod prepare;
 mod refusals;
 mod require;
 mod rows;
+mod search;
 mod slack;
 mod timer;
 mod told;
 
 pub use refusals::TimeRefusal;
 pub use sheet::{Line, NodeEntry};
-pub use timer::time;
+pub use timer::{sheets_are_counted, time};

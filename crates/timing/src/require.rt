@@ -1,5 +1,5 @@
 // What the lines beyond its arcs, and its end, ask of a line.
-ghost use Rattle.std.specs.Prelude.{◌≡◌, ◌-◌, ◌≤◌, ◌++◌, length, Some, None, slice_index_or, position};
+ghost use Rattle.std.specs.Prelude.{◌≡◌, ◌-◌, ◌≤◌, ◌++◌, length, Some, None, slice_index_or, position, option_to_list};
 ghost use Rattle.std.specs.List.{flat_map};
 ghost use Rattle.measure.specs.Rows.{Bounded, on_some};
 ghost use Rattle.graph.specs.declared.parts.LiveArc.{LiveArc};
@@ -9,11 +9,11 @@ ghost use Rattle.timing.specs.Measured.{measured};
 ghost use Rattle.timing.specs.TimedBlock.{arcs_in, asks};
 ghost use Rattle.timing.specs.Lines.{SortedByTag};
 ghost use Rattle.timing.specs.Crossings.{meant};
-ghost use Rattle.timing.specs.Requiring.{told, as_list, pick, marks, has_tag, asked_of, Beyond, AllBeyond, AsksBetween, AsksBeyond, AllAskBeyond};
+ghost use Rattle.timing.specs.Requiring.{told, pick, marks, has_tag, asked_of, Beyond, AllBeyond, AsksBetween, AsksBeyond, AllAskBeyond};
 
 use crate::block::TimedBlock;
 use crate::crossing::Crossing;
-use crate::enter::FEW;
+use crate::search::{FEW, reach};
 use crate::told::Told;
 use measure::Measure;
 use sheet::Line;
@@ -24,9 +24,13 @@ fn find(lines: &[Line], tag: u16) -> Option<usize>
     ensures { result ≡ position (has_tag tag) lines.now }
 {
     if lines.len() <= FEW {
-        lines.iter().position(|line| line.tag == tag)
+        return lines.iter().position(|line| line.tag == tag);
+    }
+    let p = reach(lines, tag);
+    if p < lines.len() && lines[p].tag == tag {
+        Some(p)
     } else {
-        lines.binary_search_by_key(&tag, |line| line.tag).ok()
+        None
     }
 }
 
@@ -42,7 +46,7 @@ pub(crate) fn earlier<M: Measure>(a: Option<Told<M>>, c: Option<Told<M>>) -> Opt
 
 // What a node's end asks of its lines.
 pub(crate) fn ask_end<M: Measure>(end: Option<M>) -> Option<Told<M>>
-    ensures { as_list (told M.Measure.row result) ≡ ended (on_some M.Measure.row end) }
+    ensures { option_to_list (told M.Measure.row result) ≡ ended (on_some M.Measure.row end) }
 {
     end.map(|row| Told {
         row,
@@ -115,7 +119,7 @@ impl<M: Measure> AskedLines<'_, M> {
     ) -> Option<Told<M>>
         requires beyond { AllBeyond (arcs_in block.now) self.now.firsts.now self.now.lines.now numbers.now }
         requires within { AllAskBeyond M.width M.Measure.row (arcs_in block.now) self.now.firsts.now self.now.lines.now self.now.required.now numbers.now }
-        ensures { told M.Measure.row result ≡ first_least (measured M.Measure) (as_list (told M.Measure.row end) ++ flat_map (λ k. as_list (asks M.Measure block.now self.now.firsts.now (marks M.Measure.row self.now.lines.now self.now.required.now) tag k)) numbers.now) }
+        ensures { told M.Measure.row result ≡ first_least (measured M.Measure) (option_to_list (told M.Measure.row end) ++ flat_map (λ k. option_to_list (asks M.Measure block.now self.now.firsts.now (marks M.Measure.row self.now.lines.now self.now.required.now) tag k)) numbers.now) }
     {
         let mut best = end;
         for number in numbers {

@@ -1,9 +1,9 @@
 // The slack of a node: the least of its lines.
-ghost use Rattle.std.specs.Prelude.{◌≡◌, ◌-◌, ◌<◌, ◌≤◌, length};
+ghost use Rattle.std.specs.Prelude.{◌≡◌, ◌-◌, ◌<◌, ◌≤◌, length, option_to_list};
 ghost use Rattle.paths.specs.Sheets.{first_least};
 ghost use Rattle.graph.specs.Sorting.{segment};
 ghost use Rattle.timing.specs.Measured.{measured};
-ghost use Rattle.timing.specs.Requiring.{told, as_list, AsksWithin};
+ghost use Rattle.timing.specs.Requiring.{told, AsksWithin};
 ghost use Rattle.timing.specs.Slacks.{timeds, slacks_of, TimesWithin};
 
 use crate::require::earlier;
@@ -28,7 +28,7 @@ impl<M: Measure> TimedLines<'_, M> {
     // The slack of line i, if it has a required time.
     fn line_slack(&self, i: usize) -> Option<Told<M>>
         requires { i < length self.now.lines.now }
-        ensures { as_list (told M.Measure.row result) ≡ slacks_of (measured M.Measure) i (segment i 1 (timeds M.Measure.row self.now.lines.now self.now.times.now self.now.required.now)) }
+        ensures { option_to_list (told M.Measure.row result) ≡ slacks_of (measured M.Measure) i (segment i 1 (timeds M.Measure.row self.now.lines.now self.now.times.now self.now.required.now)) }
     {
         if !self.lines[i].required {
             return None;

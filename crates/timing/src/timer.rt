@@ -3,17 +3,18 @@ ghost use Rattle.std.specs.Prelude.{◌≡◌, ◌≤◌, true, map, length};
 ghost use Rattle.std.specs.Result.{result_map_both};
 ghost use Rattle.measure.specs.Rows.{zeros};
 ghost use Rattle.graph.specs.Block.{block_of};
+ghost use Rattle.paths.specs.Rows.{Rows};
 ghost use Rattle.paths.specs.Sheets.{node_slack};
 ghost use Rattle.paths.specs.Graphs.{by_node, row_block};
 ghost use Rattle.sheet.specs.Lent.{tables_in, SameLoans};
-ghost use Rattle.sheet.specs.Tables.{well_sized, blanked};
+ghost use Rattle.sheet.specs.Tables.{Tables, well_sized, blanked};
 ghost use Rattle.sheet.specs.Written.{line_of, required_of, entry_of, row_or, by_nodes};
 ghost use Rattle.timing.specs.Measured.{measured};
 ghost use Rattle.timing.specs.TimedBlock.{rows_of, sheet_of};
 ghost use Rattle.timing.specs.Arrived.{Arrived};
 ghost use Rattle.timing.specs.Refusals.{refused_time};
 ghost use Rattle.timing.specs.Filled.{FilledFor};
-ghost use Rattle.timing.specs.Times.{time_outcome};
+ghost use Rattle.timing.specs.Times.{time_outcome, CountsSheets};
 ghost use Rattle.timing.specs.Terms.{terms_of};
 ghost use Rattle.timing.specs.Agreement.{TimingAgrees};
 
@@ -135,3 +136,8 @@ pub fn time<M: Measure, S: Source>(
     graph.kept();
     write_sheet(graph, source, tables)
 }
+
+// A timing answers of a sheet what is said of it by itself: its number of lines, or 15 where the tables have fewer.
+pub fn sheets_are_counted<R>()
+    ensures { (m : Rows R) (t : Tables R) → CountsSheets m t }
+{}

@@ -1,7 +1,7 @@
 use Rattle.std.proofs.Common.{Ok, Err, sym, refl, ap, ◌∙◌, subst}
 use Rattle.std.proofs.lemmas.Result.{err_from_is_err_and}
 use Rattle.reader.specs.declared.records.Kind.TheVariants.{Delays}
-use Rattle.reader.specs.Format.{scan}
+use Rattle.reader.specs.Format.{scanned}
 use Rattle.reader.specs.Loading.{Leaves, loaded}
 use Rattle.delay.specs.DelayFiles.{length_answer, take_line, Loads}
 use Rattle.delay.proofs.Standing.{loads_by, loads_stand}
@@ -19,7 +19,7 @@ pub returns : goal.returns
 returns c =
     let bytes = c.args.bytes.now in
     let s = c.args.table.now in
-    let f = scan Delays bytes in
+    let f = scanned Delays bytes in
     let r = c.load-done.result in
     let began = subst (λ x. Leaves (loaded take_line f x) x r c.load-done.new.sink.rows) c.in_ok-copy.ensures.1 c.load-done.ensures in
     let ended = subst (λ t. Leaves (loaded take_line f s) s r t) (sym c.copy_from_slice.ensures.after) began in

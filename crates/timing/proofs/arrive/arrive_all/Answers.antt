@@ -13,12 +13,12 @@ arrive-requires g c =
     let l = c.loop-node in
     let a = l.invariant.arrived in
     record {
-      ready = arrived_ready m laws b c.by-heads.result c.by-heads.ensures.lists l.node (omega arith) l.firsts l.lines l.times l.base a;
+      ready = arrived_ready m laws b c.by-heads.result c.by-heads.ensures l.node (omega arith) l.firsts l.lines l.times l.base a;
       entering = record {
         few = omega (arith, a.fit);
         room = omega (arith, a.fit);
         even = a.even;
-        near = arrived_near m laws b c.by-heads.result c.by-heads.ensures.lists l.node (omega arith) l.firsts l.lines l.times l.base a;
+        near = arrived_near m laws b c.by-heads.result c.by-heads.ensures l.node (omega arith) l.firsts l.lines l.times l.base a;
         sorted = tt;
       };
     }
@@ -28,7 +28,7 @@ loop-node-preserved g c =
     let l = c.loop-node in
     record {
       sized = search rules;
-      arrived = arrived_more g.M.Measure g.met.M.Measure.laws c.args.block.now c.by-heads.result c.by-heads.ensures.lists l.node (omega arith) l.firsts l.lines l.times l.base l.invariant.arrived
+      arrived = arrived_more g.M.Measure g.met.M.Measure.laws c.args.block.now c.by-heads.result c.by-heads.ensures l.node (omega arith) l.firsts l.lines l.times l.base l.invariant.arrived
           c.arrive.new.lines c.arrive.new.times c.in_ok-base.field-0 l.invariant.sized c.in_ok-base.ensures;
     }
 
@@ -37,7 +37,7 @@ returns-in_err-base g c =
     let m = g.M.Measure in
     let b = c.args.block.now in
     let l = c.loop-node in
-    let full = arrived_full m g.met.M.Measure.laws b c.by-heads.result c.by-heads.ensures.lists l.node (omega arith) l.firsts l.lines l.times l.base l.invariant.arrived c.in_err-base.ensures in
+    let full = arrived_full m g.met.M.Measure.laws b c.by-heads.result c.by-heads.ensures l.node (omega arith) l.firsts l.lines l.times l.base l.invariant.arrived c.in_err-base.ensures in
     subst (λ r. Arrives m.row (measured m) (rows_of m b) c.arrive.new.lines c.arrive.new.times l.firsts r) (sym c.from_residual.ensures) (omega (arith, full))
 
 pub returns-in_ok-base : goal.returns-in_ok-base
@@ -48,4 +48,4 @@ returns-in_ok-base g c =
     let l = c.loop-node in
     let n = c.in_ok-base.field-0 in
     arrived_all m laws b (l.node + 1) (set l.firsts (l.node + 1) (l.base + n)) c.arrive.new.lines c.arrive.new.times (l.base + n) (omega arith)
-    (arrived_more m laws b c.by-heads.result c.by-heads.ensures.lists l.node (omega arith) l.firsts l.lines l.times l.base l.invariant.arrived c.arrive.new.lines c.arrive.new.times n l.invariant.sized c.in_ok-base.ensures)
+    (arrived_more m laws b c.by-heads.result c.by-heads.ensures l.node (omega arith) l.firsts l.lines l.times l.base l.invariant.arrived c.arrive.new.lines c.arrive.new.times n l.invariant.sized c.in_ok-base.ensures)

@@ -20,7 +20,7 @@ require_node-requires g c =
     record {
       node = below;
       end = c.ask_end-end.ensures ∙ ap ended (c.time_row.ensures ∙ ap (on_some g.M.Measure.row_of_time) c.end.ensures);
-      numbers = c.arcs_at-numbers.ensures ∙ c.by-tails.ensures.lists l.node below;
+      numbers = c.arcs_at-numbers.ensures ∙ c.by-tails.ensures l.node below;
       firsts = c.requires.firsts;
       lines = omega (arith, l.auto.lines, c.requires.lines);
       even = omega (arith, l.auto.lines, l.auto.required, c.requires.even);

@@ -1,8 +1,8 @@
-use Rattle.std.proofs.Common.{◌≡◌, ℕ, ◌+◌, ◌-◌, List, map, get_or, set, sym, ap, ◌∙◌, subst, arith, rules}
+use Rattle.std.proofs.Common.{◌≡◌, ℕ, ◌+◌, ◌-◌, List, map, get_or, set, sym, ap, ◌∙◌, subst, arith, rules, option_to_list}
 use Rattle.std.proofs.lemmas.List.{map-set}
 use Rattle.timing.specs.Measured.{measured}
 use Rattle.timing.specs.TimedBlock.{arcs_in, rows_of}
-use Rattle.timing.specs.Requiring.{told, as_list, AllBeyond, AllAskBeyond}
+use Rattle.timing.specs.Requiring.{told, AllBeyond, AllAskBeyond}
 use Rattle.timing.specs.RequiredFrom.{RequiredFrom}
 use Rattle.timing.proofs.Falling.{lines_count, node_rises, node_stands, all_beyond, all_ask_beyond, required_more}
 use Rattle.timing.proofs.backward.require_node.Goals as goal
@@ -47,7 +47,7 @@ loop-i-preserved g c =
       within = omega (arith, c.loop-i-test.true);
       fit = search rules;
       required = required_more m g.met.M.Measure.laws b firsts c.requires.firsts c.args.numbers.now c.args.node c.requires.numbers j l.lines (set l.lines j c.with_asked.result) l.required (set l.required j x)
-          (as_list (told m.row c.args.end)) (told m.row asked) c.requires.node (omega (arith, c.loop-i-test.true)) (omega (arith, l.auto.i, c.loop-i-test.true))
+          (option_to_list (told m.row c.args.end)) (told m.row asked) c.requires.node (omega (arith, c.loop-i-test.true)) (omega (arith, l.auto.i, c.loop-i-test.true))
           (omega (arith, l.invariant.fit, c.loop-i-test.true)) (omega (arith, l.auto.lines, l.auto.required, c.requires.even))
           (subst (λ k. RequiredFrom m.row (measured m) (rows_of m b) 256 k l.lines l.required) z l.invariant.required) c.requires.end c.require-asked.ensures
           (ap (set l.lines j) c.with_asked.ensures) (map-set m.row l.required j x ∙ ap (set (map m.row l.required) j) c.row_or_zero.ensures);

@@ -1,7 +1,7 @@
-use Rattle.std.proofs.Common.{◌∙◌, ap₂, arith}
+use Rattle.std.proofs.Common.{◌∙◌, ap₂, arith, option_to_list}
 use Rattle.timing.specs.Measured.{measured}
 use Rattle.timing.specs.TimedBlock.{asks}
-use Rattle.timing.specs.Requiring.{told, marks, as_list, pick}
+use Rattle.timing.specs.Requiring.{told, marks, pick}
 use Rattle.timing.proofs.Requiring.{asks_more}
 use Rattle.timing.proofs.require.AskedLines.require.Goals as goal
 
@@ -15,4 +15,4 @@ loop-number-preserved g c =
     let asked = asks m c.args.block.now c.args.self.now.firsts.now (marks m.row c.args.self.now.lines.now c.args.self.now.required.now) c.args.tag in
     c.earlier-best.ensures
     ∙ ap₂ (pick ms) c.loop-number.invariant c.ask_over.ensures
-    ∙ asks_more ms (as_list (told m.row c.args.end)) asked c.args.numbers.now c.loop-number.number-index (omega arith)
+    ∙ asks_more ms (option_to_list (told m.row c.args.end)) asked c.args.numbers.now c.loop-number.number-index (omega arith)

@@ -1,0 +1,4 @@
+use Rattle.door.proofs.graph_calls.ripotyngue_load_arcs.Goals as goal
+
+pub returns : goal.returns
+returns c = c.serve.ensures

@@ -1,0 +1,10 @@
+use Rattle.ledger.specs.declared.words.Act.TheVariants.{Make}
+use Rattle.ledger.specs.declared.words.Call.TheVariants.{SetEnd}
+use Rattle.held.specs.Held.{held_in, Serves}
+use Rattle.door.proofs.Numbers.{of_two}
+use Rattle.door.proofs.graph_calls.ripotyngue_set_end.Goals as goal
+
+pub returns : goal.returns
+returns c =
+    of_two (λ x y. Serves (held_in c.args.held.now) (Make (SetEnd x y)) c.serve.result (held_in c.serve.new.held))
+    c.args.node c.args.ticks c.ranges.node c.ranges.ticks c.serve.ensures

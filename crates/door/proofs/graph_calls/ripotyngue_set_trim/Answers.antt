@@ -1,0 +1,10 @@
+use Rattle.ledger.specs.declared.words.Act.TheVariants.{Make}
+use Rattle.ledger.specs.declared.words.Call.TheVariants.{SetTrim}
+use Rattle.held.specs.Held.{held_in, Serves}
+use Rattle.door.proofs.Numbers.{of_two}
+use Rattle.door.proofs.graph_calls.ripotyngue_set_trim.Goals as goal
+
+pub returns : goal.returns
+returns c =
+    of_two (λ x y. Serves (held_in c.args.held.now) (Make (SetTrim x y)) c.serve.result (held_in c.serve.new.held))
+    c.args.arc c.args.ticks c.ranges.arc c.ranges.ticks c.serve.ensures

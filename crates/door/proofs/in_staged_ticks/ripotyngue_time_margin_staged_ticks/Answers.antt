@@ -1,0 +1,4 @@
+use Rattle.door.proofs.in_staged_ticks.ripotyngue_time_margin_staged_ticks.Goals as goal
+
+pub returns : goal.returns
+returns c = c.time_with_margin.ensures
