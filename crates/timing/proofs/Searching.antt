@@ -1,7 +1,7 @@
 -- A search among lines that are sorted by tag.
 use Rattle.std.proofs.Common.{◌≡◌, ℕ, ◌+◌, ◌-◌, ◌*◌, ◌<◌, ◌≤◌, cond, ltb, List, length, get_or, drop, sym, ap, ◌∙◌, subst, ⊎_elim, arith}
 use Rattle.std.proofs.lemmas.Bool.{lt-ltb, le-ltb, cases_lt}
-use Rattle.std.proofs.lemmas.List.{get_or-take, get_or-drop}
+use Rattle.std.proofs.lemmas.List.{get_or-take, get_or-drop, length-take-le, length-drop}
 use Rattle.graph.specs.Sorting.{segment}
 use Rattle.sheet.specs.declared.line.Line.{Line}
 use Rattle.sheet.specs.Lines.{past_line}
@@ -88,19 +88,22 @@ module _ (ls : List Line) (sorted : SortedByTag ls) (t : ℕ) where
     abbrev window : List Line
     window = segment base (base + left - base) ls
 
+    window_long : length window ≡ left
+    window_long = omega (arith, length-take-le (base + left - base) (drop base ls) (omega (arith, length-drop base ls, s.within)), s.within)
+
     window_at : (k : ℕ) → k < left → tag_at window k ≡ tag_at ls (base + k)
     window_at k h = ap (λ (l : Line). l.tag) (get_or-take (base + left - base) (drop base ls) k past_line (omega arith) ∙ get_or-drop base ls k past_line)
 
-    pub all_below : n ≤ left → ((k : ℕ) → k < n → tag_at window k < t) → (k : ℕ) → k < base + n → tag_at ls k < t
+    pub all_below : n ≤ length window → ((k : ℕ) → k < n → tag_at window k < t) → (k : ℕ) → k < base + n → tag_at ls k < t
     all_below le below k h =
         ⊎_elim
         (λ l. omega (arith, rises k (base - 1) (omega arith) (omega (arith, s.within)), s.below (omega arith)))
-        (λ g. let e : base + (k - base) ≡ k = omega arith in omega (arith, below (k - base) (omega arith), window_at (k - base) (omega arith), ap (tag_at ls) e))
+        (λ g. let e : base + (k - base) ≡ k = omega arith in omega (arith, below (k - base) (omega arith), window_at (k - base) (omega (arith, le, window_long)), ap (tag_at ls) e))
         (cases_lt k base)
 
-    pub stops_there : n ≤ left → (n < left → t ≤ tag_at window n) → base + n < length ls → t ≤ tag_at ls (base + n)
+    pub stops_there : n ≤ length window → (n < length window → t ≤ tag_at window n) → base + n < length ls → t ≤ tag_at ls (base + n)
     stops_there le stops h =
         ⊎_elim
-        (λ l. omega (arith, stops l, window_at n l))
-        (λ g. let e : base + left ≡ base + n = omega arith in omega (arith, s.stops (omega arith), ap (tag_at ls) e))
+        (λ l. omega (arith, stops (omega (arith, l, window_long)), window_at n l))
+        (λ g. let e : base + left ≡ base + n = omega (arith, g, le, window_long) in omega (arith, s.stops (omega (arith, e)), ap (tag_at ls) e))
         (cases_lt n left)
