@@ -46,7 +46,10 @@ impl Loading {
         ensures answer { numbered result ≡ verdict (with_arc (block_of self.old.graph) from to).answer }
         ensures after { block_of self.new.graph ≡ (with_arc (block_of self.old.graph) from to).after }
     {
-        self.indexes = None;
+        // a None is written whole, as large as the indexes, so it is not written where there are none
+        if self.indexes.is_some() {
+            self.indexes = None;
+        }
         self.graph.add_arc(from, to)?;
         Ok(())
     }
