@@ -1,5 +1,5 @@
 // What the shell answers, one line for each call, or a list with an end line.
-use crate::rows::list;
+use crate::rows::{ListOrNone, list};
 use ledger::Reply;
 use measure::Measure;
 use reader::FileRefusal;
@@ -58,6 +58,7 @@ pub fn answer_time(rt: &HostRuntime, answer: Result<usize, TimeRefusal>) -> io::
     }
 }
 
+// One write for a line: each write of standard output is a call of the system.
 fn answer_line<M: Measure>(
     rt: &HostRuntime,
     i: usize,
@@ -75,14 +76,10 @@ fn answer_line<M: Measure>(
         required: has_required,
     } = line;
     let arrival = list(arrival);
-    print!(rt; "line {i} node {node} tag {tag} arrival {arrival} back {back_arc} {back_line} ")?;
-    if has_required {
-        let required = list(required);
-        print!(rt; "required {required}")?;
-    } else {
-        rt.print("required none")?;
-    }
-    println!(rt; " fore {fore_arc} {fore_line}")
+    let required = ListOrNone(has_required.then_some(required));
+    println!(rt;
+        "line {i} node {node} tag {tag} arrival {arrival} back {back_arc} {back_line} required {required} fore {fore_arc} {fore_line}"
+    )
 }
 
 // The lines that the last timing wrote.

@@ -48,3 +48,16 @@ pub fn commas<M: Measure>(row: M) -> Joined<M> {
 pub fn list<M: Measure>(row: M) -> Joined<M> {
     Joined { row, by: "," }
 }
+
+// A row as the shell answers it, where there is one.
+#[derive(Clone, Copy)]
+pub struct ListOrNone<M>(pub Option<M>);
+
+impl<M: Measure> fmt::Display for ListOrNone<M> {
+    fn fmt<W: fmt::Write>(&self, f: &mut fmt::Formatter<W>) -> fmt::Result {
+        match self.0 {
+            Some(row) => write!(f, "{}", list(row)),
+            None => f.write_str("none"),
+        }
+    }
+}
